@@ -1,6 +1,7 @@
 //! Underconsistent states are raised before a search that takes none.
 
-ghost use Rattle.std.specs.Prelude.{◌≡◌, ◌≢◌, ℕ, ◌^◌, ◌<◌, ◌≤◌, ◌↔◌, ◌⊎◌, [], IfOk, IsTrue, Option, Some, vec_capacity};
+ghost use Rattle.std.specs.Prelude.{◌≡◌, ◌≢◌, ℕ, ◌^◌, ◌<◌, ◌≤◌, ◌↔◌, ◌⊎◌, [], IfOk, IsTrue};
+ghost use Rattle.std.specs.Prelude.{Option, Some, vec_capacity};
 ghost use Rattle.std.specs.List.{All, Contains};
 ghost use Rattle.std.specs.List.Sorted.{IsStrictlyIncreasing};
 ghost use Rattle.sbpl_ara.specs.sbpl_graph.Fit.{FitCount};

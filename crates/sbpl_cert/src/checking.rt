@@ -1,6 +1,7 @@
 //! A section is checked on a graph, wherever its labels came from.
 
-ghost use Rattle.std.specs.Prelude.{◌≡◌, ℕ, ◌^◌, ◌<◌, ◌≤◌, Ok, Err, length, OnOk, IfErr, IfSome, MatchOption, MatchResult};
+ghost use Rattle.std.specs.Prelude.{◌≡◌, ℕ, ◌^◌, ◌<◌, ◌≤◌, Ok, Err, length, OnOk, IfErr, IfSome, MatchOption};
+ghost use Rattle.std.specs.Prelude.{MatchResult};
 ghost use Rattle.sbpl_labels.specs.sbpl_graph.Bound.{IsBound};
 ghost use Rattle.sbpl_labels.specs.sbpl_graph.Certificate.{IsLabel};
 ghost use Rattle.sbpl_labels.specs.sbpl_graph.Network.{IsFreeArc};
@@ -432,7 +433,8 @@ pub fn check_sparse<G: Graph, H: Guide>(
     requires guide { H.guides guide.now (G.network graph.now) goal }
     // A section without a flaw is accepted, and no other.
     ensures none { OnOk result (HasNoFlaw (G.network graph.now) start goal (sparse_claim (H.distance guide.now) set.now)) }
-    ensures only_none { HasNoFlaw (G.network graph.now) start goal (sparse_claim (H.distance guide.now) set.now) → result ≡ Ok tt }
+    ensures only_none { HasNoFlaw (G.network graph.now) start goal (sparse_claim (H.distance guide.now) set.now)
+        → result ≡ Ok tt }
     // The flaw that is answered is the first one, with its states and numbers.
     ensures first { IfErr result (IsFirstFlaw (G.network graph.now) start goal (sparse_claim (H.distance guide.now) set.now)) }
     ensures only_first { (f : AFlaw) → IsFirstFlaw (G.network graph.now) start goal

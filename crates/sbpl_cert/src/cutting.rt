@@ -27,7 +27,8 @@ fn is_reached_by<G: Graph, H: Guide>(
     requires known { (s : ℕ) → s < states_of labels.now → H.knows guide.now s }
     requires state { t < (G.network graph.now).states }
     requires number { j < (G.network graph.now).tail_fan t }
-    ensures reached { IsTrue result → IsReachedBy (G.network graph.now) (kept_v (g_of labels.now) (H.distance guide.now) low) t j }
+    ensures reached { IsTrue result
+        → IsReachedBy (G.network graph.now) (kept_v (g_of labels.now) (H.distance guide.now) low) t j }
     ensures unreached { IsReachedBy (G.network graph.now) (kept_v (g_of labels.now) (H.distance guide.now) low) t j
         → IsTrue result }
 {

@@ -3,12 +3,12 @@
 
 mod checking;
 mod cutting;
-mod facts;
 mod fault;
 mod first;
 mod flaw;
 mod label_set;
 mod label_table;
+mod laws;
 mod making;
 mod message;
 mod outcome;
@@ -22,11 +22,11 @@ mod writing;
 
 pub use checking::{check, check_sparse};
 pub use cutting::cut;
-pub use facts::{cut_labels_show, cut_rows_are_one};
 pub use fault::LabelFault;
 pub use first::first_flaws_are_one;
 pub use flaw::Flaw;
 pub use label_set::{Arcs, LabelSet, Rows};
+pub use laws::{cut_labels_show, cut_rows_are_one};
 pub use making::{section_of, sparse_section_of};
 pub use message::labels_message;
 pub use outcome::Outcome;

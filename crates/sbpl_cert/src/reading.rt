@@ -1,6 +1,7 @@
 //! A section is read from a text.
 
-ghost use Rattle.std.specs.Prelude.{◌≡◌, ◌≢◌, ◌<◌, ◌≤◌, ◌∷◌, List, Ok, Err, pos, length, codes, IfOk, IfErr};
+ghost use Rattle.std.specs.Prelude.{◌≡◌, ◌≢◌, ◌<◌, ◌≤◌, ◌∷◌, List, Ok, Err, pos, length, codes, IfOk};
+ghost use Rattle.std.specs.Prelude.{IfErr};
 ghost use Rattle.sbpl_fixed.specs.Formats.{Answers, Gives, Steps, next, reads, start_at, turns};
 ghost use Rattle.sbpl_fixed.specs.Tokens.{Piece, tokens_from};
 ghost use Rattle.sbpl_cert.specs.declared.fault.LabelFault.{LabelFault as AFault};
@@ -434,7 +435,8 @@ fn read_section(
     reader: &mut Reader,
 ) -> Result<(Section, usize), LabelFault>
     ensures read { Gives Memory (λ x. x.0) result reader.new (reads told (section_format plan states) reader.old) }
-    ensures last { IfOk result (λ x. EndsWith reader.old.tokens (record { place = x.1; bytes = codes "end" } ∷ reader.new.tokens)) }
+    ensures last { IfOk result
+        (λ x. EndsWith reader.old.tokens (record { place = x.1; bytes = codes "end" } ∷ reader.new.tokens)) }
     ensures end { IfOk result (λ _. reader.new.end ≡ reader.old.end) }
 {
     reading_is_what_is_said::<LabelFault, Section>();
@@ -487,7 +489,8 @@ pub fn read_labels(
     // The fault is the first one, where it stands.
     ensures faulty { IfErr result (λ e. e ≢ Memory → HasFault plan states (start_at text.now at) e) }
     // A first fault is answered, unless memory runs out.
-    ensures only_faulty { (e : AFault) → HasFault plan states (start_at text.now at) e → Answers Memory (λ x. x.0) result (Err e) }
+    ensures only_faulty { (e : AFault) → HasFault plan states (start_at text.now at) e
+        → Answers Memory (λ x. x.0) result (Err e) }
     // All of this at once: the answer is what reading by the format gives.
     ensures exact { Answers Memory (λ x. (x.0, start_at text.now x.1)) result
         (reads told (section_format plan states) (start_at text.now at)) }

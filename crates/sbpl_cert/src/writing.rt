@@ -1,6 +1,7 @@
 //! A section is written at the end of a text.
 
-ghost use Rattle.std.specs.Prelude.{◌≡◌, ℕ, List, ◌+◌, ◌<◌, ◌≤◌, ◌++◌, ◌∷◌, OnOk, OnErr, IfOk, decimal, codes, length, map, drop};
+ghost use Rattle.std.specs.Prelude.{◌≡◌, ℕ, List, ◌+◌, ◌<◌, ◌≤◌, ◌++◌, ◌∷◌, OnOk, OnErr, IfOk};
+ghost use Rattle.std.specs.Prelude.{decimal, codes, length, map, drop};
 ghost use Rattle.std.specs.List.{flat_map};
 ghost use Rattle.sbpl_fixed.specs.Printed.{line_text};
 ghost use Rattle.sbpl_lists.specs.Pieces.{piece_text};
@@ -93,7 +94,7 @@ fn sparse_row_before(buffer: &mut [u8], row: SparseRow) -> usize
 }
 
 /// A row of a section.
-trait Line: Copy {
+trait RowText: Copy {
     /// Its line.
     ghost text: { Self → List ℕ };
 
@@ -104,7 +105,7 @@ trait Line: Copy {
         ensures text { drop result buffer.new ≡ text self };
 }
 
-impl Line for Row {
+impl RowText for Row {
     ghost text = { row_text };
 
     fn line_before(self, buffer: &mut [u8]) -> usize {
@@ -112,7 +113,7 @@ impl Line for Row {
     }
 }
 
-impl Line for SparseRow {
+impl RowText for SparseRow {
     ghost text = { sparse_row_text };
 
     fn line_before(self, buffer: &mut [u8]) -> usize {
@@ -130,7 +131,7 @@ fn put(out: &mut Vec<u8>, text: &[u8]) -> Result<(), NoMemory>
 }
 
 /// Appends the line of a row.
-fn put_row<R: Line>(out: &mut Vec<u8>, row: R) -> Result<(), NoMemory>
+fn put_row<R: RowText>(out: &mut Vec<u8>, row: R) -> Result<(), NoMemory>
     ensures ok { OnOk result (out.new.items ≡ out.old.items ++ R.text row) }
     ensures kept { BeginsWith out.old.items out.new.items }
 {
@@ -141,7 +142,7 @@ fn put_row<R: Line>(out: &mut Vec<u8>, row: R) -> Result<(), NoMemory>
 
 /// Appends the lines of the rows.
 #[tactic(auto, using(crate::proofs::Kept::kept))]
-fn put_rows<R: Line>(out: &mut Vec<u8>, rows: &[R]) -> Result<(), NoMemory>
+fn put_rows<R: RowText>(out: &mut Vec<u8>, rows: &[R]) -> Result<(), NoMemory>
     ensures ok { OnOk result (out.new.items ≡ out.old.items ++ flat_map R.text rows.now) }
     ensures kept { BeginsWith out.old.items out.new.items }
 {
@@ -153,7 +154,7 @@ fn put_rows<R: Line>(out: &mut Vec<u8>, rows: &[R]) -> Result<(), NoMemory>
 
 /// Appends a section, of which the lines before the rows are given.
 #[tactic(auto, using(crate::proofs::Kept::kept, std::proofs::lemmas::List::append_assoc))]
-fn put_section<R: Line>(out: &mut Vec<u8>, front: &[u8], rows: &[R]) -> Result<(), NoMemory>
+fn put_section<R: RowText>(out: &mut Vec<u8>, front: &[u8], rows: &[R]) -> Result<(), NoMemory>
     ensures ok { OnOk result (out.new.items ≡ out.old.items ++ (front.now ++ (flat_map R.text rows.now ++ codes "end\n"))) }
     ensures kept { BeginsWith out.old.items out.new.items }
 {
@@ -163,7 +164,7 @@ fn put_section<R: Line>(out: &mut Vec<u8>, front: &[u8], rows: &[R]) -> Result<(
 }
 
 /// Appends a section, of which the lines before the rows are given. After `NoMemory` the text is unchanged.
-fn write_section<R: Line>(out: &mut Vec<u8>, front: &[u8], rows: &[R]) -> Result<(), NoMemory>
+fn write_section<R: RowText>(out: &mut Vec<u8>, front: &[u8], rows: &[R]) -> Result<(), NoMemory>
     ensures ok { OnOk result (out.new.items ≡ out.old.items ++ (front.now ++ (flat_map R.text rows.now ++ codes "end\n"))) }
     ensures err { OnErr result (out.new.items ≡ out.old.items) }
 {

@@ -1,6 +1,7 @@
 //! An environment file is read.
 
-ghost use Rattle.std.specs.Prelude.{true, false, bytes_eq, ℕ, List, Ok, Err, ◌≡◌, ◌≢◌, ◌*◌, ◌<◌, ◌≤◌, pos, negsuc, ◌≤ℤ◌};
+ghost use Rattle.std.specs.Prelude.{true, false, bytes_eq, ℕ, List, Ok, Err, ◌≡◌, ◌≢◌, ◌*◌, ◌<◌, ◌≤◌};
+ghost use Rattle.std.specs.Prelude.{pos, negsuc, ◌≤ℤ◌};
 ghost use Rattle.std.specs.Prelude.{◌<ℤ◌, IfOk, IfErr, MatchResult, length};
 ghost use Rattle.sbpl_fixed.specs.Formats.{Answers, Gives, reads};
 ghost use Rattle.sbpl_fixed.specs.Tokens.{tokens};

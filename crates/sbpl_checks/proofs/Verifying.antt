@@ -14,7 +14,7 @@ use Rattle.sbpl_worlds.specs.sbpl_promises.Checked.{AreChecked, Case, Ground, Is
 use Rattle.sbpl_worlds.specs.sbpl_promises.Checked.{IsStoppedIn, IsTrailing, case_of, from_in, ground, to_in}
 use Rattle.sbpl_worlds.specs.sbpl_promises.Intents.{checked_status, checked_writes, last_write, stop_status, stop_writes}
 use Rattle.sbpl_worlds.specs.sbpl_report.Refusals.{label_fault_text}
-use Rattle.sbpl_worlds.specs.sbpl_promises.declared.course.Course.{Course}
+use Rattle.sbpl_worlds.specs.sbpl_promises.declared.updates.Updates.{Updates}
 use Rattle.sbpl_checks.specs.Checking.{EndsAtSection, EndsSections, EndsText, HoldsAndPrints, HoldsInCase}
 use Rattle.sbpl_checks.specs.Checking.{IsFaultTold, IsPlanIn, stopped, unwritten}
 use Rattle.sbpl_checks.specs.declared.label_file.LabelFile.{LabelFile}
@@ -132,22 +132,22 @@ module _ {W : Type 0} {on : Site W} (c : Case on) where
 
   -- from and to which states a plan is searched
   pub from_is : (k : ℕ) (w : W) (start goal : ℕ) → IsPlanIn c k w start goal
-      → from_in c k ≡ from_of on.wording.back start goal
+      → from_in c k ≡ from_of on.reporting.back start goal
   from_is k w start goal is =
       let start_is = is.start_is in
       let goal_is = is.goal_is in
-      λ i. from_of on.wording.back (start_is i) (goal_is i)
+      λ i. from_of on.reporting.back (start_is i) (goal_is i)
 
   pub to_is : (k : ℕ) (w : W) (start goal : ℕ) → IsPlanIn c k w start goal
-      → to_in c k ≡ to_of on.wording.back start goal
+      → to_in c k ≡ to_of on.reporting.back start goal
   to_is k w start goal is =
       let start_is = is.start_is in
       let goal_is = is.goal_is in
-      λ i. to_of on.wording.back (start_is i) (goal_is i)
+      λ i. to_of on.reporting.back (start_is i) (goal_is i)
 
   -- what guides the checking of a plan
   pub ground_in : (k : ℕ) (w : W) (start goal : ℕ) (guide : ℕ → ℕ) → IsPlanIn c k w start goal
-      → on.says w (to_of on.wording.back start goal) guide → IsGroundAfter c k (ground (on.network w) guide)
+      → on.says w (to_of on.reporting.back start goal) guide → IsGroundAfter c k (ground (on.network w) guide)
   ground_in k w start goal guide is says = record {
     map = on.cells.map w;
     after = is.after;
@@ -165,27 +165,27 @@ ok_so (Err e) P Q so is = tt
 -- how far the checking of a text has come, where what guides the
 -- search is made for the present world: the sections of the first k
 -- maps hold, and however it ends from there on it ends from the first section on
-pub record IsCheckedTo {W : Type 0} (on : Site W) (first now : W) (Made : Type 0) (course : Course)
+pub record IsCheckedTo {W : Type 0} (on : Site W) (first now : W) (Made : Type 0) (updates : Updates)
     (start here goal : ℕ) (file : LabelFile) (k at : ℕ) (s t : DeskState) : Type 0 where
-  pub leads : (more : ℕ) → k + more ≡ length course.batches → (u : DeskState) (e : Ending)
-      → EndsSections (case_of on first course start goal) k (suc more) (start_at file.text.now at) file t u e
-      → EndsSections (case_of on first course start goal) 0 (suc (length course.batches)) (start_at file.text.now 0)
+  pub leads : (more : ℕ) → k + more ≡ length updates.batches → (u : DeskState) (e : Ending)
+      → EndsSections (case_of on first updates start goal) k (suc more) (start_at file.text.now at) file t u e
+      → EndsSections (case_of on first updates start goal) 0 (suc (length updates.batches)) (start_at file.text.now 0)
       file s u e
   pub made : Made
-  pub far : k ≤ length course.batches
-  pub map_after : IsMapAfter (on.cells.map first) course.batches k (on.cells.map now)
+  pub far : k ≤ length updates.batches
+  pub map_after : IsMapAfter (on.cells.map first) updates.batches k (on.cells.map now)
   pub other_parts : now ≡ on.cells.over first (on.cells.map now)
   pub kept : on.cells.is_made now
-  pub start_is : start_after on.wording first start course.moves k ≡ here
-  pub state : here < (on.wording.told now).states
+  pub start_is : start_after on.reporting first start updates.moves k ≡ here
+  pub state : here < (on.reporting.told now).states
   pub inside : at ≤ length file.text.now
   pub frame : WritesOnly IsOutput s t
 
 -- plan k of the text is planned in the present world
-pub plan_in : {W : Type 0} {on : Site W} {first now : W} {Made : Type 0} {course : Course}
+pub plan_in : {W : Type 0} {on : Site W} {first now : W} {Made : Type 0} {updates : Updates}
     {start here goal : ℕ} {file : LabelFile} {k at : ℕ} {s t : DeskState}
-    → IsCheckedTo on first now Made course start here goal file k at s t
-    → IsPlanIn (case_of on first course start goal) k now here goal
+    → IsCheckedTo on first now Made updates start here goal file k at s t
+    → IsPlanIn (case_of on first updates start goal) k now here goal
 plan_in so = record {
   after = so.map_after;
   same = so.other_parts;
@@ -195,21 +195,21 @@ plan_in so = record {
 }
 
 -- at the first section
-pub none_checked : {W : Type 0} {w : W} {Made : Type 0} {course : Course} {start goal : ℕ} {file : LabelFile}
+pub none_checked : {W : Type 0} {w : W} {Made : Type 0} {updates : Updates} {start goal : ℕ} {file : LabelFile}
     {s : DeskState} (on : Site W) → IsTerrain on.network on.cells → Made
-    → IsMapAfter (on.cells.map w) course.batches 0 (on.cells.map w) → on.cells.is_made w → start < (on.wording.told w).states
-    → IsCheckedTo on w w Made course start start goal file 0 0 s s
-none_checked {w} {course} {start} {goal} {file} {s} on law made after kept state = record {
+    → IsMapAfter (on.cells.map w) updates.batches 0 (on.cells.map w) → on.cells.is_made w → start < (on.reporting.told w).states
+    → IsCheckedTo on w w Made updates start start goal file 0 0 s s
+none_checked {w} {updates} {start} {goal} {file} {s} on law made after kept state = record {
   made = made;
   state = state;
   leads = λ more is u e ends.
-      subst (λ (m : ℕ). EndsSections (case_of on w course start goal) 0 (suc m) (start_at file.text.now 0) file s u e)
-      (let same : more ≡ length course.batches = omega arith in same) ends;
+      subst (λ (m : ℕ). EndsSections (case_of on w updates start goal) 0 (suc m) (start_at file.text.now 0) file s u e)
+      (let same : more ≡ length updates.batches = omega arith in same) ends;
   far = omega arith;
   map_after = after;
   other_parts = sym (law.present w);
   kept = kept;
-  start_is = start_first on.wording w start course.moves;
+  start_is = start_first on.reporting w start updates.moves;
   inside = omega arith;
   frame = nothing_done IsOutput s;
 }

@@ -2,7 +2,7 @@
 
 ghost use Rattle.std.specs.Prelude.{◌<◌, ◌≤◌, ℕ, Bool, suc, length, IfErr, IfOk, OnOk};
 ghost use Rattle.sbpl_worlds.specs.sbpl_fixed.Formats.{start_at};
-ghost use Rattle.sbpl_worlds.specs.sbpl_promises.Causes.{IsCourseIn};
+ghost use Rattle.sbpl_worlds.specs.sbpl_promises.Causes.{AreUpdatesIn};
 ghost use Rattle.sbpl_worlds.specs.sbpl_promises.Checked.{Case, case_of};
 ghost use Rattle.sbpl_checks.specs.Checking.{EndsSections, EndsText, HoldsInCase, IsPlanIn};
 ghost use Rattle.sbpl_worlds.specs.sbpl_promises.Sites.{site_of, to_of};
@@ -12,7 +12,7 @@ use crate::check_next::{check_next, tell_fault};
 use crate::label_file::LabelFile;
 use sbpl_telling::{Ending, status_after, write_last};
 use sbpl_worlds::{
-    Course, Desk, Heuristic, LabelFault, NoMemory, Workspace, next_token, place_in, write_batch,
+    Desk, Heuristic, LabelFault, NoMemory, Updates, Workspace, next_token, place_in, write_batch,
     writes_lead_to_the_next_map,
 };
 use std::alloc::Global;
@@ -41,15 +41,16 @@ fn check_plan<D: Desk, W: Workspace>(
     at: usize,
     desk: &mut D,
 ) -> Result<usize, Ending>
-    requires start { start < (W.wording.told world.now).states }
-    requires goal { goal < (W.wording.told world.now).states }
-    requires made { W.Best.is_made_for guide.now world.now (to_of W.wording.back start goal) }
+    requires start { start < (W.reporting.told world.now).states }
+    requires goal { goal < (W.reporting.told world.now).states }
+    requires made { W.Best.is_made_for guide.now world.now (to_of W.reporting.back start goal) }
     requires at { at ≤ length labels.now.text.now }
     ensures inside { IfOk result (λ next. next ≤ length labels.now.text.now) }
-    ensures holds { (c : Case (site_of W.network W.cells W.Best.says W.wording)) → IsPlanIn c plan world.now start goal
+    ensures holds { (c : Case (site_of W.network W.cells W.Best.says W.reporting)) → IsPlanIn c plan world.now start goal
         → IfOk result (λ next. HoldsInCase c plan (start_at labels.now.text.now at) (start_at labels.now.text.now next)
         (D.state desk.old) (D.state desk.new)) }
-    ensures ends { (c : Case (site_of W.network W.cells W.Best.says W.wording)) (more : ℕ) → IsPlanIn c plan world.now start goal
+    ensures ends { (c : Case (site_of W.network W.cells W.Best.says W.reporting)) (more : ℕ)
+        → IsPlanIn c plan world.now start goal
         → IfErr result (EndsSections c plan (suc more) (start_at labels.now.text.now at) labels.now (D.state desk.old)
         (D.state desk.new)) }
     ensures frame { WritesOnly IsOutput (D.state desk.old) (D.state desk.new) }
@@ -82,19 +83,20 @@ fn check_sections<D: Desk, W: Workspace>(
     alloc: Global,
     world: &mut W,
     guide: &mut W::Best,
-    course: &Course,
+    updates: &Updates,
     start: u32,
     goal: u32,
     labels: &LabelFile,
     desk: &mut D,
 ) -> Ending
-    requires start { start < (W.wording.told world.old).states }
-    requires goal { goal < (W.wording.told world.old).states }
+    requires start { start < (W.reporting.told world.old).states }
+    requires goal { goal < (W.reporting.told world.old).states }
     requires kept { W.cells.is_made world.old }
-    requires course { (moving : Bool) × IsCourseIn (site_of W.network W.cells W.Best.says W.wording) moving world.old course.now }
-    requires made { W.Best.is_made_for guide.old world.old (to_of W.wording.back start goal) }
-    ensures ends { EndsSections (case_of (site_of W.network W.cells W.Best.says W.wording) world.old course.now start goal)
-        0 (suc (length course.now.batches)) (start_at labels.now.text.now 0) labels.now (D.state desk.old)
+    requires updates { (moving : Bool)
+        × AreUpdatesIn (site_of W.network W.cells W.Best.says W.reporting) moving world.old updates.now }
+    requires made { W.Best.is_made_for guide.old world.old (to_of W.reporting.back start goal) }
+    ensures ends { EndsSections (case_of (site_of W.network W.cells W.Best.says W.reporting) world.old updates.now start goal)
+        0 (suc (length updates.now.batches)) (start_at labels.now.text.now 0) labels.now (D.state desk.old)
         (D.state desk.new) result }
     ensures frame { WritesOnly IsOutput (D.state desk.old) (D.state desk.new) }
 {
@@ -102,21 +104,21 @@ fn check_sections<D: Desk, W: Workspace>(
     writes_lead_to_the_next_map();
     let mut start = start;
     let mut at = 0;
-    for k in 0..course.batches.batches() {
+    for k in 0..updates.batches.batches() {
         match check_plan(alloc, world, guide, start, goal, k, labels, at, desk) {
             Ok(next) => at = next,
             Err(ending) => return ending,
         }
-        write_batch(world, course.batches.batch(k));
+        write_batch(world, updates.batches.batch(k));
         guide.rebuild(world);
         let (_from, was) = W::way(start, goal);
-        start = world.start_at(place_in(course, k), start);
+        start = world.start_at(place_in(updates, k), start);
         let (_from, to) = W::way(start, goal);
         if let Err(NoMemory) = aim(alloc, world, guide, was, to) {
             return Ending::plain(alloc, 9);
         }
     }
-    let last = course.batches.batches();
+    let last = updates.batches.batches();
     match check_plan(alloc, world, guide, start, goal, last, labels, at, desk) {
         Ok(next) => end_sections(alloc, labels, next, desk),
         Err(ending) => ending,
@@ -128,25 +130,26 @@ fn check_sections<D: Desk, W: Workspace>(
 pub fn check_text<D: Desk, W: Workspace>(
     alloc: Global,
     world: &mut W,
-    course: &Course,
+    updates: &Updates,
     start: u32,
     goal: u32,
     labels: &LabelFile,
     desk: &mut D,
 ) -> Ending
-    requires start { start < (W.wording.told world.old).states }
-    requires goal { goal < (W.wording.told world.old).states }
+    requires start { start < (W.reporting.told world.old).states }
+    requires goal { goal < (W.reporting.told world.old).states }
     requires kept { W.cells.is_made world.old }
-    requires course { (moving : Bool) × IsCourseIn (site_of W.network W.cells W.Best.says W.wording) moving world.old course.now }
-    ensures ends { EndsSections (case_of (site_of W.network W.cells W.Best.says W.wording) world.old course.now start goal)
-        0 (suc (length course.now.batches)) (start_at labels.now.text.now 0) labels.now (D.state desk.old)
+    requires updates { (moving : Bool)
+        × AreUpdatesIn (site_of W.network W.cells W.Best.says W.reporting) moving world.old updates.now }
+    ensures ends { EndsSections (case_of (site_of W.network W.cells W.Best.says W.reporting) world.old updates.now start goal)
+        0 (suc (length updates.now.batches)) (start_at labels.now.text.now 0) labels.now (D.state desk.old)
         (D.state desk.new) result }
     ensures frame { WritesOnly IsOutput (D.state desk.old) (D.state desk.new) }
 {
     let (_from, to) = W::way(start, goal);
     match W::Best::build(alloc, world, to) {
         Ok(mut guide) => check_sections(
-            alloc, world, &mut guide, course, start, goal, labels, desk,
+            alloc, world, &mut guide, updates, start, goal, labels, desk,
         ),
         Err(NoMemory) => Ending::plain(alloc, 9),
     }

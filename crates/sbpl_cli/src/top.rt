@@ -47,7 +47,7 @@ pub fn run_to_end<R: Threads + Wait + Sync, D: Desk, T: Gate + Sync>(
 /// the name `-`, and answers the status: 0 where the job was done, 1 for labels with a flaw, 2 for words that name no job, 3, 4
 /// and 5 for a fault of the environment file, of the primitive file and of the change file, 6 for a file that could not be
 /// read, 7 for a write that failed, 8 for a file of more than 2^30 bytes, 9 where memory ran out, and 10 for a fault in the
-/// text of labels. Plans by ePA*SE are made by threads, each of which calls the gate before it evaluates an edge; no other job
+/// text of labels. Plans by ePA*SE are made by threads, each of which calls the gate before it judges an arc; no other job
 /// starts a thread.
 ///
 /// Each path that a pass finds is published on the board at once, so that other threads can read the newest one while the

@@ -1,6 +1,7 @@
 //! What going from one place to another costs at least, on every map.
 
-ghost use Rattle.std.specs.Prelude.{◌≡◌, ℕ, ◌<◌, ◌≤◌, ◌-◌, ◌*◌, ◌/◌, pos, negsuc, List, map, max, slice_get, Some};
+ghost use Rattle.std.specs.Prelude.{◌≡◌, ℕ, ◌<◌, ◌≤◌, ◌-◌, ◌*◌, ◌/◌, pos, negsuc, List, map, max};
+ghost use Rattle.std.specs.Prelude.{slice_get, Some};
 ghost use Rattle.sbpl_sweep.specs.sbpl_cfg.Environment.{IsWithin};
 ghost use Rattle.sbpl_sweep.specs.sbpl_mprim.declared.prim.Primitive.{Primitive};
 ghost use Rattle.sbpl_sweep.specs.sbpl_mprim.Primitives.{IsPrimitive};
@@ -94,7 +95,8 @@ fn lesser(a: Option<Rate>, b: Option<Rate>) -> Option<Rate>
 
 /// The least fraction of cost to cells of the primitives that go this way, or nothing for a cell where none does.
 fn least_rate(env: &Env, prims: &[Prim], costs: &[u32], way: Way) -> Rate
-    requires primitives { (i : ℕ) (p : Primitive) → slice_get prims.now i ≡ Some p → IsPrimitive env.now.cell env.now.headings p }
+    requires primitives { (i : ℕ) (p : Primitive) → slice_get prims.now i ≡ Some p
+        → IsPrimitive env.now.cell env.now.headings p }
     requires costs { costs.now ≡ map (primitive_cost env.now) prims.now }
     requires cheap { AreCheap env.now prims.now }
     ensures rate { IsRate env.now prims.now way result }

@@ -1,6 +1,7 @@
 //! Whether a motion is free on a map, and the greatest cost that it pays.
 
-ghost use Rattle.std.specs.Prelude.{◌≡◌, ℕ, pos, negsuc, ◌^◌, ◌<◌, ◌+ℤ◌, ◌≤ℤ◌, ◌⊎◌, slice_get, Some, IsTrue, false, IfSome, IfNone};
+ghost use Rattle.std.specs.Prelude.{◌≡◌, ℕ, pos, negsuc, ◌^◌, ◌<◌, ◌+ℤ◌, ◌≤ℤ◌, ◌⊎◌, slice_get};
+ghost use Rattle.std.specs.Prelude.{Some, IsTrue, false, IfSome, IfNone};
 ghost use Rattle.sbpl_sweep.specs.sbpl_cfg.Environment.{IsWithin};
 ghost use Rattle.sbpl_terrain.specs.sbpl_map.CellMap.{IsOnMap, cost_at};
 ghost use Rattle.sbpl_sweep.specs.declared.cell.Cell.{Cell};

@@ -1,6 +1,7 @@
 //! The lattice: an environment, primitives and a map, as a graph.
 
-ghost use Rattle.std.specs.Prelude.{◌≡◌, pos, ◌^◌, ◌<◌, ◌≤◌, ◌↔◌, ◌++◌, length, slice_get, Some, IsSome, IfSome, IsOk};
+ghost use Rattle.std.specs.Prelude.{◌≡◌, pos, ◌^◌, ◌<◌, ◌≤◌, ◌↔◌, ◌++◌, length, slice_get, Some};
+ghost use Rattle.std.specs.Prelude.{IsSome, IfSome, IsOk};
 ghost use Rattle.std.specs.Prelude.{IfOk, IfErr, OnOk, OnErr};
 ghost use Rattle.std.specs.List.{filter_map};
 ghost use Rattle.std.specs.Option.{option_map};
@@ -247,7 +248,8 @@ impl Lattice {
     /// The cost by itself of the primitive at index `i` of the file, 1..16777215.
     pub fn cost_of(&self, i: u32) -> u32
         requires place { i < length self.now.prims.items }
-        ensures cost { (p : Primitive) × (slice_get self.now.prims.items i ≡ Some p) × (result ≡ primitive_cost self.now.env p) }
+        ensures cost { (p : Primitive) × (slice_get self.now.prims.items i ≡ Some p)
+            × (result ≡ primitive_cost self.now.env p) }
         ensures positive { 1 ≤ result }
         ensures limit { result ≤ most_cost }
     {

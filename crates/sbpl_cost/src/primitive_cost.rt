@@ -1,6 +1,7 @@
 //! The cost of a primitive by itself: SBPL's rule, in whole numbers.
 
-ghost use Rattle.std.specs.Prelude.{◌≡◌, ◌≢◌, ℕ, pos, negsuc, ◌-ℤ◌, ◌+◌, ◌*◌, ◌^◌, ◌<◌, ◌≤◌, length, slice_get, Some};
+ghost use Rattle.std.specs.Prelude.{◌≡◌, ◌≢◌, ℕ, pos, negsuc, ◌-ℤ◌, ◌+◌, ◌*◌, ◌^◌, ◌<◌};
+ghost use Rattle.std.specs.Prelude.{◌≤◌, length, slice_get, Some};
 ghost use Rattle.std.specs.Prelude.{IfSome, IfNone};
 ghost use Rattle.sbpl_sweep.specs.sbpl_cfg.declared.pose.Pose.{Pose};
 ghost use Rattle.sbpl_sweep.specs.sbpl_cfg.Environment.{IsWithin};

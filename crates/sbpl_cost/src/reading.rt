@@ -1,6 +1,7 @@
 //! Which arcs read a cell.
 
-ghost use Rattle.std.specs.Prelude.{◌≡◌, ℕ, pos, ◌<◌, ◌-ℤ◌, ◌++◌, [], length, take, slice_get, Some, OnOk, OnErr};
+ghost use Rattle.std.specs.Prelude.{◌≡◌, ℕ, pos, ◌<◌, ◌-ℤ◌, ◌++◌, [], length, take, slice_get, Some, OnOk};
+ghost use Rattle.std.specs.Prelude.{OnErr};
 ghost use Rattle.std.specs.List.{filter_map, cons_option};
 ghost use Rattle.sbpl_sweep.specs.sbpl_mprim.Primitives.{ArePrimitives};
 ghost use Rattle.sbpl_cost.specs.Judging.{IsNear};

@@ -7,7 +7,7 @@ ghost use Rattle.sbpl_demo.specs.Primitives.{IsMotion, IsWithinTwoCells, along, 
 ghost use Rattle.sbpl_demo.specs.Primitives.{left, motion_head, motion_lines, motions_from, nearest_ninth, pose_lines};
 ghost use Rattle.sbpl_demo.specs.Primitives.{pose_words, primitives_text, right, way_along};
 
-use crate::put::Parts;
+use crate::put::TenThousandths;
 use sbpl_cost::Piece::{Bytes, Number, Signed};
 use sbpl_cost::{push_line, push_lines};
 use sbpl_fixed::NoMemory;
@@ -106,7 +106,10 @@ fn put_pose(out: &mut Vec<u8>, motion: &Motion, j: u32) -> Result<(), NoMemory>
     let x = along(motion.way.x, j);
     let y = along(motion.way.y, j);
     let theta = angle(heading_at(motion, j));
-    push_line(out, &[Parts(x), Parts(y), Parts(theta)])
+    push_line(
+        out,
+        &[TenThousandths(x), TenThousandths(y), TenThousandths(theta)],
+    )
 }
 
 /// Appends the lines of the ten poses.

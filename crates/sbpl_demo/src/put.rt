@@ -10,7 +10,7 @@ use sbpl_fixed::NoMemory;
 
 /// A number of ten-thousandths.
 #[derive(Clone, Copy)]
-pub(crate) struct Parts(pub(crate) i32);
+pub(crate) struct TenThousandths(pub(crate) i32);
 
 /// The last digit of a number.
 fn last_digit(n: u32) -> u8
@@ -51,7 +51,7 @@ fn push_point(out: &mut Vec<u8>, before: &[u8], n: u32) -> Result<(), NoMemory>
     )
 }
 
-impl Word for Parts {
+impl Word for TenThousandths {
     ghost text = { λ parts. parts_text parts.0 };
 
     fn push(&self, out: &mut Vec<u8>) -> Result<(), NoMemory> {

@@ -1,5 +1,6 @@
 //! A desk in memory, for tests.
-ghost use Rattle.std.specs.Prelude.{◌≡◌, ◌≢◌, ◌≤◌, ◌^◌, ◌++◌, [], Some, None, Err, IsSome, IsNone, IfSome, IsErr, IsErrOf};
+ghost use Rattle.std.specs.Prelude.{◌≡◌, ◌≢◌, ◌≤◌, ◌^◌, ◌++◌, [], Some, None, Err, IsSome, IsNone};
+ghost use Rattle.std.specs.Prelude.{IfSome, IsErr, IsErrOf};
 ghost use Rattle.std.specs.Prelude.{IsOkUnless, OnOk, OnErr, ℕ, List, replicate, take, vec_len};
 ghost use Rattle.std.specs.BTreeMap.{get};
 ghost use Rattle.std.specs.Ordering.{nat_cmp};
@@ -213,7 +214,8 @@ impl Desk for MemoryDesk {
         ensures prefix { IsErrOf result WriteStop.Failed → AppendsPrefix (Some (memory_written self.old name.now))
             (Some (memory_written self.new name.now)) bytes.now }
         ensures memory { IsErrOf result WriteStop.NoMemory → Stays (memory_written self.old) (memory_written self.new) }
-        ensures others { (other : List ℕ) → other ≢ name.now → memory_written self.new other ≡ memory_written self.old other }
+        ensures others { (other : List ℕ) → other ≢ name.now
+            → memory_written self.new other ≡ memory_written self.old other }
         ensures held { Stays (memory_held self.old) (memory_held self.new) }
 
         // It fails exactly where the call is listed, after as many bytes as listed, and counts that.

@@ -1,5 +1,6 @@
 //! The real outside: files, and the standard output.
-ghost use Rattle.std.specs.Prelude.{◌≡◌, ◌≢◌, ◌≤◌, ◌<◌, ◌^◌, ◌++◌, [], length, take, Err, IfOk, IfSome, OnOk, OnErr, vec_len};
+ghost use Rattle.std.specs.Prelude.{◌≡◌, ◌≢◌, ◌≤◌, ◌<◌, ◌^◌, ◌++◌, [], length, take, Err, IfOk};
+ghost use Rattle.std.specs.Prelude.{IfSome, OnOk, OnErr, vec_len};
 ghost use Rattle.std.specs.Io.KnownBytes.{Consumes, IsAtEnd};
 ghost use Rattle.sbpl_desk.specs.Counts.{read_count, write_count};
 ghost use Rattle.sbpl_desk.specs.Desk.{Appends, AppendsPrefix, TooLongWhere};

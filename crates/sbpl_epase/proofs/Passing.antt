@@ -174,7 +174,7 @@ module _ (q : Query) (m : Marks) (before : Counts) (events : List Event) (first 
     record { none_ready = idle.none_ready; none_out = idle.none_out },
   )
 
-  pub passed : (end : PassEnd) (old new : State Event) → old.labels ≡ m → new.labels ≡ last.labels → new.notes ≡ events
+  pub passed : (end : PassEnd) (old new : State Event) → old.labels ≡ m → new.labels ≡ last.labels → new.actions ≡ events
       → new.goal ≡ old.goal → new.raised ≡ old.raised → old.goal ≡ q.goal
       → (end ≡ Rest → IsRest q last) → (end ≡ Spent → IsOutOfBudget q last)
       → IsPassed epase q old new before last.counts end
@@ -225,7 +225,7 @@ module _ (q : Query) (m left : Marks) (before after : Counts) (keeps : Bool) (lo
     (first_kept : FirstIsKept) (events_keep : EventsKeep) (idle_exact : IdleIsExact) (settled : SettledAtOne)
     (once : EachOpensOnce) (free : CountsAreFree) (marked : OpenedByEvents) (fresh : StartStaysFresh)
     (small : (s : ℕ) → s < q.network.states → q.guide s < 2 ^ 55) where
-  pub finished_passed : (old new : State Event) → old.labels ≡ m → new.labels ≡ left → new.notes ≡ log.events
+  pub finished_passed : (old new : State Event) → old.labels ≡ m → new.labels ≡ left → new.actions ≡ log.events
       → new.goal ≡ old.goal → new.raised ≡ old.raised → old.goal ≡ q.goal
       → IsPassed epase q old new before after end
   finished_passed old new from to noted same_goal same_raised goal =

@@ -22,7 +22,7 @@ space_in (Some space) = space
 
 -- the labels, the goal, the events of the last pass, whether they were kept, and the states that were raised last
 abbrev pub search_of : Option Marks → ℕ → Log → (raised : List ℕ) → State Event
-search_of labels goal journal raised = record { labels = labels_in labels; goal = goal; notes = journal.events; kept = journal.keeps; raised = raised }
+search_of labels goal journal raised = record { labels = labels_in labels; goal = goal; actions = journal.events; kept = journal.keeps; raised = raised }
 
 -- The labels and the memory of a pass are there. No state is underconsistent, and each overconsistent one is where the next pass
 -- looks for it. The goal is a state, this many states were expanded in the last pass, and there is room to raise each state once.

@@ -21,7 +21,7 @@ pub record IsCutAfterEvents (q : Query) (old new : State Event) (before after : 
   pub last : Frontier
   pub replay : Replays q before events old.labels new.labels last
   pub counts : after ≡ last.counts
-  pub untold : new.notes ≡ []
+  pub untold : new.actions ≡ []
   pub goal : new.goal ≡ old.goal
   pub raised : new.raised ≡ old.raised
 

@@ -4,7 +4,7 @@ ghost use Rattle.std.specs.Prelude.{◌≡◌, ◌≤◌, [], All, IfOk, OnErr, 
 ghost use Rattle.sbpl_epase.specs.Workers.{HasEnded};
 
 use crate::Gate;
-use crate::worker::{Done, Floor, work};
+use crate::worker::{Context, Done, work};
 use sbpl_adstar::{Graph, Guide, NoMemory};
 use sbpl_frontier::{Lined, Pass, Past, Seat, Second, Shared};
 use std::alloc::Global;
@@ -42,24 +42,24 @@ pub(crate) fn run_workers<
     ensures even { All (λ s. length s.posts ≡ s.takes) result.0.items }
     ensures ended { OnOk result.1 (All (HasEnded N.query N.opening N.counts) result.0.items) }
 {
-    let floor = Floor {
+    let context = Context {
         rt,
         shared,
         graph,
         gate,
         most: processors(rt),
     };
-    let floor = &floor;
+    let context = &context;
     thread::scope(
         thread::scope_env(),
         rt,
         move |scope| -> (Vec<Seat<N, M, L>>, Result<(), NoMemory>)
-            requires { (G.network floor.now.graph.now ≡ N.query.network) × All (λ s. length s.posts ≡ s.takes) seats.items }
+            requires { (G.network context.now.graph.now ≡ N.query.network) × All (λ s. length s.posts ≡ s.takes) seats.items }
             ensures { (vec_len result.0 ≡ vec_len seats) × All (λ s. length s.posts ≡ s.takes) result.0.items
                 × OnOk result.1 (All (HasEnded N.query N.opening N.counts) result.0.items) }
         {
             let mut seats = seats;
-            let outcome = work_all(scope, alloc, floor, &mut seats);
+            let outcome = work_all(scope, alloc, context, &mut seats);
             (seats, outcome)
         },
     )
@@ -83,17 +83,17 @@ fn work_all<
 >(
     scope: &Scope<'s, E>,
     alloc: Global,
-    floor: &'s Floor<'f, Shared<'g, G, H, N, U, M, L>, R, G, T>,
+    context: &'s Context<'f, Shared<'g, G, H, N, U, M, L>, R, G, T>,
     seats: &mut Vec<Seat<N, M, L>>,
 ) -> Result<(), NoMemory>
-    requires graph { G.network floor.now.graph.now ≡ N.query.network }
+    requires graph { G.network context.now.graph.now ≡ N.query.network }
     requires even { All (λ s. length s.posts ≡ s.takes) seats.old.items }
     ensures all { vec_len seats.new ≡ vec_len seats.old }
     ensures even { All (λ s. length s.posts ≡ s.takes) seats.new.items }
     ensures ended { OnOk result (All (HasEnded N.query N.opening N.counts) seats.new.items) }
 {
-    let started = start_all(scope, alloc, floor, seats)?;
-    join_all(floor.rt, started, seats)
+    let started = start_all(scope, alloc, context, seats)?;
+    join_all(context.rt, started, seats)
 }
 
 /// Starts a worker in each seat. The one error is that memory ran out before the first one was started.
@@ -113,10 +113,10 @@ fn start_all<
 >(
     scope: &Scope<'s, E>,
     alloc: Global,
-    floor: &'s Floor<'f, Shared<'g, G, H, N, U, M, L>, R, G, T>,
+    context: &'s Context<'f, Shared<'g, G, H, N, U, M, L>, R, G, T>,
     seats: &mut Vec<Seat<N, M, L>>,
 ) -> Result<Vec<Started<N, M, L>>, NoMemory>
-    requires graph { G.network floor.now.graph.now ≡ N.query.network }
+    requires graph { G.network context.now.graph.now ≡ N.query.network }
     requires even { All (λ s. length s.posts ≡ s.takes) seats.old.items }
     ensures all { IfOk result (λ started. vec_len started ≡ vec_len seats.old) }
     ensures none_left { OnOk result (seats.new.items ≡ []) }
@@ -126,7 +126,7 @@ fn start_all<
     let mut started = Vec::new(alloc);
     started.reserve(seats.len())?;
     'starts: while let Some(seat) = seats.pop() {
-        started.push_reserved(start(scope, floor, seat));
+        started.push_reserved(start(scope, context, seat));
     }
     Ok(started)
 }
@@ -147,15 +147,15 @@ fn start<
     L: Lined + Send + Sync + 's,
 >(
     scope: &Scope<'s, E>,
-    floor: &'s Floor<'f, Shared<'g, G, H, N, U, M, L>, R, G, T>,
+    context: &'s Context<'f, Shared<'g, G, H, N, U, M, L>, R, G, T>,
     seat: Seat<N, M, L>,
 ) -> Started<N, M, L>
-    requires graph { G.network floor.now.graph.now ≡ N.query.network }
+    requires graph { G.network context.now.graph.now ≡ N.query.network }
     requires even { length seat.posts ≡ seat.takes }
 {
     let job = move || -> Done<N, M, L>
-        requires { (G.network floor.now.graph.now ≡ N.query.network) × (length seat.posts ≡ seat.takes) }
-    { work(floor, seat) };
+        requires { (G.network context.now.graph.now ≡ N.query.network) × (length seat.posts ≡ seat.takes) }
+    { work(context, seat) };
     match scope.spawn(job) {
         Ok(handle) => Ok(handle),
         Err(job) => Err((job.value)()),

@@ -60,7 +60,8 @@ impl<F> Epase<F> {
         requires start { start < states }
         requires goal { goal < states }
         ensures opened { IfOk result (λ a. AreInitial a.search.labels states start) }
-        ensures ready { IfOk result (λ a. (n : Network) (count : ℕ) → n.states ≡ states → AreReady n a.search.labels count) }
+        ensures ready { IfOk result
+            (λ a. (n : Network) (count : ℕ) → n.states ≡ states → AreReady n a.search.labels count) }
         ensures fresh { IfOk result (λ a. IsStartFresh a.search.labels) }
         ensures goal { IfOk result (λ a. a.search.goal ≡ goal) }
         ensures none_raised { IfOk result (λ a. a.search.raised ≡ []) }
@@ -162,7 +163,7 @@ impl<F> Epase<F> {
     /// What the last pass did, in order, where it was kept; nothing where it ran out of memory, and before the first.
     pub fn events(&self) -> &[Event]
         requires kept { self.now.search.kept ≡ true }
-        ensures value { result.now ≡ self.now.search.notes }
+        ensures value { result.now ≡ self.now.search.actions }
     {
         self.journal.events().unwrap()
     }
@@ -176,7 +177,7 @@ impl<F> Epase<F> {
 
     /// How many states the last pass expanded; none where it ran out of memory, and before the first.
     pub fn expanded(&self) -> u64
-        ensures value { result ≡ openings self.now.search.notes }
+        ensures value { result ≡ openings self.now.search.actions }
     {
         self.expanded
     }

@@ -14,6 +14,6 @@ pub use epase::Epase;
 pub use parallel::{parallel_pass, parallel_pass_parts};
 pub use passed::Passed;
 pub use sbpl_frontier::{
-    Claim, Claims, Core, Event, Gate, Journal, Judged, Keeper, Line, Lined, Naming, Next, NoGate,
-    Parts, Pass, Seat, Second, Shared, Turn, Unseen, judge,
+    Claim, Claims, Core, Event, Gate, Journal, Judged, Keeper, Lined, Naming, Next, NoGate, Parts,
+    Pass, Seat, Second, Shared, Turn, UnnamedQueue, Unseen, judge,
 };

@@ -13,7 +13,7 @@ use crate::crew::run_workers;
 use crate::{Gate, Passed};
 use sbpl_adstar::{Graph, Guide, NoMemory, PassEnd};
 use sbpl_frontier::{
-    Claims, Core, CoreOf, Line, Lined, Parts, Pass, Past, Second, Shared, Unseen, go_on,
+    Claims, Core, CoreOf, Lined, Parts, Pass, Past, Second, Shared, UnnamedQueue, Unseen, go_on,
     nothing_begun,
 };
 use std::alloc::Global;
@@ -132,7 +132,7 @@ fn share_as<
     ensures work { IfOk result (λ core. IsWorkOf N.query N.opening N.counts workers core.journal) }
     ensures seats { IfOk result (λ core. AreTakenBelow workers core.journal) }
 {
-    let line = match Line::<N, M>::new(alloc, workers) {
+    let line = match UnnamedQueue::<N, M>::new(alloc, workers) {
         Ok(line) => line,
         Err(NoMemory) => return Err(core),
     };
@@ -161,7 +161,7 @@ fn line_as<
     gate: &T,
     takes: Blank,
     claims: Claims,
-    line: Line<N, M>,
+    line: UnnamedQueue<N, M>,
 ) -> Result<CoreOf<'g, G, H, N, U>, CoreOf<'g, G, H, N, U>>
     requires some { 1 ≤ workers }
     requires few { workers ≤ 64 }
@@ -253,7 +253,8 @@ fn parts_as<
         (H.guides guide.now (G.network graph.now) goal) parts }
     ensures left { Leaves N.query parts keeps result }
     ensures seats { IfOk result (λ passed. AreTakenBelow workers passed.journal.events) }
-    ensures worked { 2 ≤ workers → IfOk result (λ passed. BeginsWithWork N.query N.opening N.counts workers passed.journal.events) }
+    ensures worked { 2 ≤ workers
+        → IfOk result (λ passed. BeginsWithWork N.query N.opening N.counts workers passed.journal.events) }
 {
     nothing_begun(graph, guide, &parts.labels, goal, eps, &parts.budget);
     let core = CoreOf::<'_, G, H, N, Unseen>::open_parts(

@@ -15,7 +15,7 @@ impl<
     H: Guide,
     F: Fn(Global, &G, &H, Parts, u32, u32, bool) -> Result<Passed, Parts> + Drop,
 > Search<G, H> for Epase<F> {
-    type Note = Event;
+    type Action = Event;
 
     ghost meaning = { epase };
 
@@ -92,7 +92,7 @@ impl<
         Epase::low(self, guide)
     }
 
-    fn notes(&self) -> &[Event] {
+    fn actions(&self) -> &[Event] {
         self.events()
     }
 

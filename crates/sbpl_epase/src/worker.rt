@@ -31,7 +31,7 @@ impl<N: Pass, M: Second, L: Lined> Done<N, M, L> {
 
 /// What all workers of a pass share: the runtime, the frontier, the graph and the gate, and how many of them are of use at a time.
 #[derive(Drop)]
-pub(crate) struct Floor<'s, S, R, G, T> {
+pub(crate) struct Context<'s, S, R, G, T> {
     pub(crate) rt: &'s R,
     pub(crate) shared: &'s S,
     pub(crate) graph: &'s G,
@@ -51,14 +51,17 @@ pub(crate) fn work<
     U: Past,
     M: Second,
     L: Lined,
->(floor: &Floor<'s, Shared<'g, G, H, N, U, M, L>, R, G, T>, seat: Seat<N, M, L>) -> Done<N, M, L>
-    requires graph { G.network floor.now.graph.now ≡ N.query.network }
+>(
+    context: &Context<'s, Shared<'g, G, H, N, U, M, L>, R, G, T>,
+    seat: Seat<N, M, L>,
+) -> Done<N, M, L>
+    requires graph { G.network context.now.graph.now ≡ N.query.network }
     requires even { length seat.posts ≡ seat.takes }
     ensures saw { IfOk result.why (λ end. ∥ SawEnd N.query N.opening N.counts end result.seat ∥₁) }
 {
     let mut seat = seat;
-    let why = take_turns(floor, &mut seat);
-    floor.shared.wake_all();
+    let why = take_turns(context, &mut seat);
+    context.shared.wake_all();
     Done::new(seat, why)
 }
 
@@ -66,21 +69,21 @@ pub(crate) fn work<
 /// journal then shows. The one error is that memory ran out. A worker that finds nothing to do waits until a judgement comes
 /// back; one that gets an arc wakes another, for which there may be one too.
 fn take_turns<'s, 'g, R: Wait, T: Gate, G: Graph, H: Guide, N: Pass, U: Past, M: Second, L: Lined>(
-    floor: &Floor<'s, Shared<'g, G, H, N, U, M, L>, R, G, T>,
+    context: &Context<'s, Shared<'g, G, H, N, U, M, L>, R, G, T>,
     seat: &mut Seat<N, M, L>,
 ) -> Result<PassEnd, NoMemory>
-    requires graph { G.network floor.now.graph.now ≡ N.query.network }
+    requires graph { G.network context.now.graph.now ≡ N.query.network }
     requires even { length seat.old.posts ≡ seat.old.takes }
     ensures even { length seat.new.posts ≡ seat.new.takes }
     ensures saw { IfOk result (λ end. ∥ SawEnd N.query N.opening N.counts end seat.new ∥₁) }
 {
-    let Floor {
+    let Context {
         rt,
         shared,
         graph,
         gate,
         most,
-    } = *floor;
+    } = *context;
     'turns: for _ in rt.forever() {
         let moment = shared.moment();
         match shared.next(rt, seat)? {

@@ -1,6 +1,7 @@
 //! Numbers in fixed point are printed at the end of a text.
 
-ghost use Rattle.std.specs.Prelude.{◌≡◌, ◌+◌, ◌-◌, ◌^◌, ◌<◌, ◌≤◌, ◌++◌, ◌∷◌, length, drop, OnOk, OnErr, decimal, slice_set};
+ghost use Rattle.std.specs.Prelude.{◌≡◌, ◌+◌, ◌-◌, ◌^◌, ◌<◌, ◌≤◌, ◌++◌, ◌∷◌, length, drop};
+ghost use Rattle.std.specs.Prelude.{OnOk, OnErr, decimal, slice_set};
 ghost use Rattle.sbpl_fixed.specs.Printed.{last_digits, milli_text, nano_text, point_text};
 ghost use Rattle.sbpl_fixed.specs.ReadBack.{NanosAreReadBack, MillisAreReadBack, WholesAreReadBack, NanosAreWords};
 ghost use Rattle.sbpl_fixed.specs.ReadBack.{WholesAreWords, WordsAreTokens, LastWordsAreTokens, BlanksPartTokens};

@@ -1,6 +1,7 @@
 //! Tokens: the longest runs of bytes of a text between blanks.
 
-ghost use Rattle.std.specs.Prelude.{ℕ, List, ◌≡◌, ◌+◌, ◌<◌, ◌≤◌, [], ◌∷◌, true, length, drop, MatchOption, IfSome};
+ghost use Rattle.std.specs.Prelude.{ℕ, List, ◌≡◌, ◌+◌, ◌<◌, ◌≤◌, [], ◌∷◌, true, length, drop};
+ghost use Rattle.std.specs.Prelude.{MatchOption, IfSome};
 ghost use Rattle.std.specs.List.{prefix_len, AllByRecursion};
 ghost use Rattle.sbpl_fixed.specs.Runs.{IsLongestRun, IsOneOf, AreAbove, TokensGoOn};
 ghost use Rattle.sbpl_fixed.specs.Tokens.{tokens, Piece, is_blank, is_filled, is_fresh, token_at, tokens_from, tokens_past};

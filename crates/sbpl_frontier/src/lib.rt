@@ -2,17 +2,17 @@
 //! the judgements into a line, which whoever next holds the lock empties.
 #![tactic(auto)]
 
-mod bell;
 mod ledgers;
 mod locked;
 mod seat;
 mod second;
 mod shared;
 mod turn;
+mod waiters;
 
 pub use sbpl_postings::{
-    Claim, Claims, Core, CoreOf, Event, Gate, Journal, Judged, Keeper, Line, Lined, Naming, Next,
-    NoGate, Parts, Pass, Past, Seen, Space, Ticket, Unseen, events_keep, go_on, judge,
+    Claim, Claims, Core, CoreOf, Event, Gate, Journal, Judged, Keeper, Lined, Naming, Next, NoGate,
+    Parts, Pass, Past, Seen, Space, Ticket, UnnamedQueue, Unseen, events_keep, go_on, judge,
     nothing_begun,
 };
 pub use seat::Seat;

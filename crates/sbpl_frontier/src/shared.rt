@@ -8,13 +8,14 @@ ghost use Rattle.sbpl_frontier.specs.Come.{HaveCome};
 ghost use Rattle.sbpl_frontier.specs.Tally.{fresh_seats, posted};
 ghost use Rattle.sbpl_frontier.specs.Turns.{Gives, Shows, ShowsOwn};
 
-use crate::bell::Bell;
 use crate::ledgers::TakesOf;
 use crate::locked::Locked;
 use crate::seat::deal;
+use crate::waiters::Waiters;
 use crate::{Seat, Second, Turn};
 use sbpl_postings::{
-    Claim, Claims, CoreOf, Graph, Guide, Judged, Line, Lined, NoMemory, Pass, Past, Posting, Queue,
+    Claim, Claims, CoreOf, Graph, Guide, Judged, Lined, NoMemory, Pass, Past, Posting, Queue,
+    UnnamedQueue,
 };
 use std::alloc::Global;
 use std::sync::ledger::Blank;
@@ -26,7 +27,7 @@ use std::sync::{Mutex, Wait};
 pub struct Shared<'g, G: Graph, H: Guide, N: Pass, U: Past, M: Second, L: Lined> {
     lock: Mutex<Locked<'g, G, H, N, U, M, L>>,
     queue: Queue<N, M, L>,
-    bell: Bell,
+    waiters: Waiters,
 }
 
 impl<'g, G: Graph, H: Guide, N: Pass, U: Past, M: Second, L: Lined> Shared<'g, G, H, N, U, M, L> {
@@ -37,7 +38,7 @@ impl<'g, G: Graph, H: Guide, N: Pass, U: Past, M: Second, L: Lined> Shared<'g, G
         core: CoreOf<'g, G, H, N, U>,
         seats: u32,
         takes: Blank,
-        line: Line<N, M>,
+        line: UnnamedQueue<N, M>,
         claims: Claims,
     ) -> Result<(Shared<'g, G, H, N, U, M, L>, Vec<Seat<N, M, L>>), CoreOf<'g, G, H, N, U>>
         requires some { 1 ≤ seats }
@@ -68,7 +69,7 @@ impl<'g, G: Graph, H: Guide, N: Pass, U: Past, M: Second, L: Lined> Shared<'g, G
         let shared = Shared {
             lock: Mutex::new(locked),
             queue,
-            bell: Bell::new(seats as u64),
+            waiters: Waiters::new(seats as u64),
         };
         Ok((shared, places))
     }
@@ -103,7 +104,7 @@ impl<'g, G: Graph, H: Guide, N: Pass, U: Past, M: Second, L: Lined> Shared<'g, G
         if let Err(posting) = self.queue.push(rt, &mut seat.sender, posting) {
             self.post_again(rt, seat, posting);
         }
-        self.bell.note();
+        self.waiters.note();
     }
 
     /// Puts a posting into a line that was full. Until it is in, what the line holds is applied; the lock is held meanwhile.
@@ -137,7 +138,7 @@ impl<'g, G: Graph, H: Guide, N: Pass, U: Past, M: Second, L: Lined> Shared<'g, G
         let Shared {
             lock,
             queue,
-            bell: _,
+            waiters: _,
         } = self;
         let mut locked = lock.into_inner();
         let mut all_takes = locked.end_all(&queue, seats);
@@ -154,22 +155,22 @@ impl<'g, G: Graph, H: Guide, N: Pass, U: Past, M: Second, L: Lined> Shared<'g, G
 
     /// How many judgements came back so far. It tells `wait` from when on to wait.
     pub fn moment(&self) -> u64 {
-        self.bell.changes()
+        self.waiters.changes()
     }
 
     /// Returns once a judgement came back after this moment, or where this worker is woken, and may return for no reason. Where
     /// `most` others are awake, it returns only where this worker is woken.
     pub fn wait<R: Wait>(&self, rt: &R, moment: u64, most: u64) {
-        self.bell.wait(rt, moment, most);
+        self.waiters.wait(rt, moment, most);
     }
 
     /// Wakes one worker that waits, where there is one and fewer than `most` are awake: there may be an arc for it.
     pub fn wake_one(&self, most: u64) {
-        self.bell.wake_one(most);
+        self.waiters.wake_one(most);
     }
 
     /// Wakes every worker that waits. From then on none waits.
     pub fn wake_all(&self) {
-        self.bell.wake_all();
+        self.waiters.wake_all();
     }
 }

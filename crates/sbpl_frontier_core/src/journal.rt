@@ -1,6 +1,7 @@
 //! The journal of a pass.
 
-ghost use Rattle.std.specs.Prelude.{◌≡◌, ◌+◌, ◌<◌, ◌≤◌, ◌↔◌, [], ◌∷◌, ◌++◌, IfSome, IsSome, IsTrue, OnOk};
+ghost use Rattle.std.specs.Prelude.{◌≡◌, ◌+◌, ◌<◌, ◌≤◌, ◌↔◌, [], ◌∷◌, ◌++◌, IfSome, IsSome};
+ghost use Rattle.std.specs.Prelude.{IsTrue, OnOk};
 
 use crate::{Past, Unseen};
 use sbpl_frontier_rules::{Event, NoMemory};

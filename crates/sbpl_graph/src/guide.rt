@@ -20,9 +20,11 @@ pub trait Guide {
         ensures value { result ≡ distance self.now s }
         ensures small { result < 2 ^ 55 };
 
-    ghost consistent: { (guide : Self) (n : Network) (goal : ℕ) → guides guide n goal → IsConsistent n goal (distance guide) };
+    ghost consistent: { (guide : Self) (n : Network) (goal : ℕ) → guides guide n goal
+        → IsConsistent n goal (distance guide) };
 
     ghost covered: { (guide : Self) (n : Network) (goal s : ℕ) → guides guide n goal → s < n.states → knows guide s };
 
-    ghost bounded: { (guide : Self) (n : Network) (goal s : ℕ) → guides guide n goal → s < n.states → distance guide s < 2 ^ 55 };
+    ghost bounded: { (guide : Self) (n : Network) (goal s : ℕ) → guides guide n goal → s < n.states
+        → distance guide s < 2 ^ 55 };
 }

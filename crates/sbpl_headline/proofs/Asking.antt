@@ -16,7 +16,7 @@ use Rattle.sbpl_promises.specs.sbpl_job.Jobs.{Settings, budget_by, budget_in, di
 use Rattle.sbpl_promises.specs.sbpl_job.Jobs.{may_move, milli_by, milli_in, nav_by, nav_in, output_by, outputs_by, outputs_in}
 use Rattle.sbpl_promises.specs.sbpl_job.Jobs.{plan_by, plan_in, planner_by, radius_by, radius_in, search_in, grid_search_in}
 use Rattle.sbpl_promises.specs.sbpl_job.Jobs.{sources_by, workers_by}
-use Rattle.sbpl_promises.specs.sbpl_job.Words.{Parts, id_of, is_plain_word, is_setting, parts_of, takes}
+use Rattle.sbpl_promises.specs.sbpl_job.Words.{WordParts, id_of, is_plain_word, is_setting, parts_of, takes}
 use Rattle.sbpl_promises.specs.sbpl_job.Words as given
 use Rattle.sbpl_promises.specs.sbpl_job.declared.job.Job.{Job}
 use Rattle.sbpl_promises.specs.sbpl_job.declared.job.Job.TheVariants as job
@@ -238,7 +238,7 @@ asked_by changes radius search =
     record { changes = changes; radius = radius; bound = search.bound; budget = search.budget }
 
 -- words with these parts ask what their settings say
-asks : (c : Command) (rest : List Word) (p : Parts) (radius : ℕ) (search : SearchJob) → ArePartsOf c rest p
+asks : (c : Command) (rest : List Word) (p : WordParts) (radius : ℕ) (search : SearchJob) → ArePartsOf c rest p
     → RadiusIs (given.value_of setting.Radius p.given) radius
     → search_in (λ s. given.value_of s p.given) ≡ Some search
     → Ask rest p.plain (asked_by (given.value_of setting.Changes p.given) radius search)
@@ -357,7 +357,7 @@ no_dash : (w : Word) → is_plain_word w ≡ true → w ≢ codes "-"
 no_dash w plain e = true≢false (sym plain ∙ ap is_plain_word e)
 
 -- the outputs that settings name are none of them the standard output
-no_dashes : (c : Command) (rest : List Word) (p : Parts) (files : List Word) (changes : Option Word) (o : Outputs)
+no_dashes : (c : Command) (rest : List Word) (p : WordParts) (files : List Word) (changes : Option Word) (o : Outputs)
     → ArePartsOf c rest p → outputs_in files changes (λ s. given.value_of s p.given) ≡ Some o → NoDashes o
 no_dashes c rest p files changes o it h =
     let set : Settings = λ s. given.value_of s p.given in
@@ -375,8 +375,8 @@ no_dashes c rest p files changes o it h =
 -- ---- parts that name a job
 
 -- words that name a job have parts, which name it
-parted : (c : Command) (o : Option Parts) (j : Job) → option_and_then (job_by c) o ≡ Some j
-    → (q : Parts) × (o ≡ Some q) × (job_by c q ≡ Some j)
+parted : (c : Command) (o : Option WordParts) (j : Job) → option_and_then (job_by c) o ≡ Some j
+    → (q : WordParts) × (o ≡ Some q) × (job_by c q ≡ Some j)
 parted c None j h = absurd (none-some j h)
 parted c (Some q) j h = (q, refl, h)
 

@@ -1,4 +1,4 @@
--- What the lines of a change file say, and the course that they give.
+-- What the lines of a change file say, and the updates that they give.
 use Rattle.std.proofs.Common.{◌≡◌, ◌⊎◌, ℕ, suc, ◌<◌, nat_lt, List, [], ◌∷◌, ◌++◌, map, filter, length, codes}
 use Rattle.std.proofs.Common.{Option, Some, None, MatchOption, IfSome, refl, sym, ap, subst, ◌∙◌, arith}
 use Rattle.std.proofs.Common.{inl, inr}
@@ -15,11 +15,11 @@ use Rattle.sbpl_promises.specs.sbpl_map.ChangeText.{lines_with_fields, place_in,
 use Rattle.sbpl_promises.specs.sbpl_map.ChangeText.{writes_alone, writes_of}
 use Rattle.sbpl_promises.specs.sbpl_map.Fields.{fields, has_some, is_parting}
 use Rattle.sbpl_promises.specs.sbpl_map.declared.write.Write.{Write}
-use Rattle.sbpl_promises.specs.Causes.{ReadsCourse}
-use Rattle.sbpl_promises.specs.Texts.{IsCourseText, Scope}
+use Rattle.sbpl_promises.specs.Causes.{ReadsUpdates}
+use Rattle.sbpl_promises.specs.Texts.{IsTextOfUpdates, Scope}
 use Rattle.sbpl_promises.specs.Writing.{Told}
-use Rattle.sbpl_promises.specs.declared.course.Course.{Course}
-use Rattle.sbpl_headline.specs.Files.{IsChangeText, Line, Means, Said, between, line_words, word}
+use Rattle.sbpl_promises.specs.declared.updates.Updates.{Updates}
+use Rattle.sbpl_headline.specs.Files.{IsChangeText, ChangeLine, Means, Said, between, line_words, word}
 use Rattle.sbpl_headline.specs.Headline.{Read}
 use Rattle.sbpl_headline.proofs.Numbering.{whole_says}
 use Rattle.sbpl_headline.proofs.Told.{line_of, lines_of}
@@ -64,7 +64,7 @@ end_tells : (line : List (List ℕ)) → line ≡ replan_line → AllZip Means (
 end_tells line h = subst (λ l. AllZip Means (word (codes "replan") ∷ []) l) (sym h) (refl, tt)
 
 -- the words of the lines of a batch, with `replan` after them
-abbrev batch_words : List Line → List (List Said)
+abbrev batch_words : List ChangeLine → List (List Said)
 batch_words batch = map line_words batch ++ (word (codes "replan") ∷ []) ∷ []
 
 -- the lines of a batch say what it gives, and those after them what the next ones do
@@ -97,21 +97,21 @@ lines_say m headings text told h =
     subst (λ told_lines. AllZip (AllZip Means) words told_lines) (lines_are (lines text))
     (batches_tell m headings told (lines_with_fields (lines text)) h)
 
--- ---- the course
+-- ---- the updates
 
 -- no line of these batches is a place
 abbrev pub HaveNoPlaces : List (List Given) → Type 0
 HaveNoPlaces told = AllByRecursion (λ batch. AllByRecursion (λ g. place_in g ≡ None) batch) told
 
--- a course has the places that the lines of these batches give, on the map, with headings below the number given
-pub record HasPlacesOf (s : Scope) (c : Course) (told : List (List Given)) : Type 0 where
+-- map updates have the places that the lines of these batches give, on the map, with headings below the number given
+pub record HasPlacesOf (s : Scope) (c : Updates) (told : List (List Given)) : Type 0 where
   pub moves : c.moves ≡ Some (map place_of told)
   pub headings : ℕ
   pub given : s.headings ≡ Some headings
   pub on_map : ArePlacesOnMap s.map headings (map place_of told)
 
--- a course is told by the lines of batches, which the change file says, where there is one
-pub record IsCourseTold (held : Told) (changes : Option (List ℕ)) (s : Scope) (c : Course) : Type 0 where
+-- map updates are told by the lines of batches, which the change file says, where there is one
+pub record AreUpdatesTold (held : Told) (changes : Option (List ℕ)) (s : Scope) (c : Updates) : Type 0 where
   pub told : List (List Given)
   pub says : MatchOption changes (lines_of told ≡ []) (λ name. Read held name (IsChangeText (lines_of told)))
   pub batches : c.batches ≡ map writes_of told
@@ -140,7 +140,7 @@ alone_no_places : (batches : List (List Write)) → HaveNoPlaces (writes_alone b
 alone_no_places [] = tt
 alone_no_places (batch ∷ batches) = (write_no_places batch, alone_no_places batches)
 
--- ---- the places of a course are on the map
+-- ---- the places of map updates are on the map
 
 -- a place that a line gives is on the map
 place_on_map : (m : CellMap) (n : ℕ) (line : List (List ℕ)) (p : Place) → LineTells m (Some n) line (said_by (inr p))
@@ -177,20 +177,20 @@ places_on_map m n (batch ∷ told) told_lines h =
     let both = batch_on_map m n batch told (places_on_map m n told) told_lines h in
     (last_on_map m n None (filter_map place_in batch) tt both.0, both.1)
 
--- ---- the course that was read
+-- ---- the updates that were read
 
--- a change file that stands for a course tells it
-course_by_text : (held : Told) (name : List ℕ) (m : CellMap) (headings : Option ℕ) (text : List ℕ) (c : Course)
-    → IfSome (held name) (λ bytes. text ≡ bytes) → IsCourseText m headings text c
-    → IsCourseTold held (Some name) (record { map = m; headings = headings }) c
-course_by_text held name m None text c read h = record {
+-- a change file that stands for map updates tells it
+updates_by_text : (held : Told) (name : List ℕ) (m : CellMap) (headings : Option ℕ) (text : List ℕ) (c : Updates)
+    → IfSome (held name) (λ bytes. text ≡ bytes) → IsTextOfUpdates m headings text c
+    → AreUpdatesTold held (Some name) (record { map = m; headings = headings }) c
+updates_by_text held name m None text c read h = record {
   told = writes_alone c.batches;
   says = (text, read, lines_say m None text (writes_alone c.batches) h.0);
   batches = alone_are c.batches;
   moves = inl (h.1, alone_no_places c.batches);
   count = length-map c.batches (λ batch. map (λ w. inl w) batch);
 }
-course_by_text held name m (Some n) text c read h =
+updates_by_text held name m (Some n) text c read h =
     let t = h.2 in
     let on = places_on_map m n t.0 (lines_with_fields (lines text)) t.1 in
     record {
@@ -206,20 +206,20 @@ course_by_text held name m (Some n) text c read h =
       count = sym (ap length t.2 ∙ length-map t.0 writes_of);
     }
 
--- a course that was read is told by the lines of its change file, and by none where there is no such file
-pub course_told : (held : Told) (changes : Option (List ℕ)) (s : Scope) (c : Course) → ReadsCourse held changes s c
-    → IsCourseTold held changes s c
-course_told held None s c h = record {
+-- map updates that were read are told by the lines of its change file, and by none where there is no such file
+pub updates_told : (held : Told) (changes : Option (List ℕ)) (s : Scope) (c : Updates) → ReadsUpdates held changes s c
+    → AreUpdatesTold held changes s c
+updates_told held None s c h = record {
   told = [];
   says = refl;
-  batches = ap (λ (d : Course). d.batches) h;
-  moves = inl (ap (λ (d : Course). d.moves) h, tt);
-  count = ap (λ (d : Course). length d.batches) (sym h);
+  batches = ap (λ (d : Updates). d.batches) h;
+  moves = inl (ap (λ (d : Updates). d.moves) h, tt);
+  count = ap (λ (d : Updates). length d.batches) (sym h);
 }
-course_told held (Some name) s c h = course_by_text held name s.map s.headings h.0 c h.1.told h.2
+updates_told held (Some name) s c h = updates_by_text held name s.map s.headings h.0 c h.1.told h.2
 
--- a course whose change file may give no places has none
-pub stays : (held : Told) (changes : Option (List ℕ)) (s : Scope) (c : Course) → IsCourseTold held changes s c
+-- map updates whose change file may give no places have none
+pub stays : (held : Told) (changes : Option (List ℕ)) (s : Scope) (c : Updates) → AreUpdatesTold held changes s c
     → s.headings ≡ None → c.moves ≡ None
 stays held changes s c t none = elim t.moves [
   | inl h ↦ h.0

@@ -9,20 +9,20 @@ use Rattle.sbpl_promises.specs.sbpl_job.declared.job.Outputs.{Outputs}
 use Rattle.sbpl_promises.specs.sbpl_job.declared.job.SearchJob.{SearchJob}
 use Rattle.sbpl_promises.specs.sbpl_plan.Passing as passing
 use Rattle.sbpl_promises.specs.sbpl_plan.declared.found.Found.{Found}
-use Rattle.sbpl_promises.specs.sbpl_plan.declared.passes.Pass.{Pass}
+use Rattle.sbpl_promises.specs.sbpl_plan.declared.passes.PassRecord.{PassRecord}
 use Rattle.sbpl_promises.specs.sbpl_report.declared.record.PlanRecord.{PlanRecord}
-use Rattle.sbpl_promises.specs.sbpl_report.declared.record.Spot.{Spot}
+use Rattle.sbpl_promises.specs.sbpl_report.declared.record.ReportPose.{ReportPose}
 use Rattle.sbpl_promises.specs.sbpl_report.declared.record.TraceLine.{TraceLine}
-use Rattle.sbpl_promises.specs.Asked.{Known}
+use Rattle.sbpl_promises.specs.Asked.{PlannerOn}
 use Rattle.sbpl_promises.specs.Headline.{ArePlans, AreRecords, Carried, IsMarked, expanded_before}
 use Rattle.sbpl_promises.specs.Published.{Entry, with_plan}
 use Rattle.sbpl_promises.specs.Sites.{Site}
-use Rattle.sbpl_promises.specs.declared.course.Course.{Course}
+use Rattle.sbpl_promises.specs.declared.updates.Updates.{Updates}
 use Rattle.sbpl_headline.specs.Path.{Plan, expansions}
 use Rattle.sbpl_headline.proofs.Plans.{told_pass, told_plan, told_plans}
 
 -- passes expanded as many states as is told
-expansions_told : (ps : List (Pass TraceLine)) → sum_by (λ q. q.expanded) (map told_pass ps) ≡ passing.expansions ps
+expansions_told : (ps : List (PassRecord TraceLine)) → sum_by (λ q. q.expanded) (map told_pass ps) ≡ passing.expansions ps
 expansions_told [] = refl
 expansions_told (p ∷ ps) =
     sum_by-cons (λ q. q.expanded) (told_pass p) (map told_pass ps) ∙ ap (λ (n : ℕ). p.expanded + n) (expansions_told ps)
@@ -47,20 +47,20 @@ mark_says budget before n true r marked e =
 mark_says budget before n false r marked e = absurd cc
 
 -- there are as many plans as records
-pub count_told : {P : Type 0} (at : Spot → P) (starts : ℕ → P) (k : ℕ) (records : List PlanRecord)
+pub count_told : {P : Type 0} (at : ReportPose → P) (starts : ℕ → P) (k : ℕ) (records : List PlanRecord)
     → length (told_plans at starts k records) ≡ length records
 count_told at starts k [] = refl
 count_told at starts k (r ∷ rs) = ap suc (count_told at starts (suc k) rs)
 
 -- one more than there are batches of changes
-pub plans_are_counted : {P W : Type 0} (at : Spot → P) (places : ℕ → P) (on : Site W) (w : W) (course : Course)
+pub plans_are_counted : {P W : Type 0} (at : ReportPose → P) (places : ℕ → P) (on : Site W) (w : W) (updates : Updates)
     (how : SearchJob) (outputs : Outputs) (records : List PlanRecord) (log : List Entry) (broken : List Found)
-    → ArePlans on w course how outputs records true log broken
-    → length (told_plans at places 0 records) ≡ suc (length course.batches)
-plans_are_counted at places on w course how outputs records log broken plans =
-    count_told at places 0 records ∙ plans.all_made refl ∙ add-one (length course.batches)
+    → ArePlans on w updates how outputs records true log broken
+    → length (told_plans at places 0 records) ≡ suc (length updates.batches)
+plans_are_counted at places on w updates how outputs records log broken plans =
+    count_told at places 0 records ∙ plans.all_made refl ∙ add-one (length updates.batches)
 
-module _ {P W : Type 0} (at : Spot → P) (places : ℕ → P) (by : Known W) (w : W) (batches : List (List Write))
+module _ {P W : Type 0} (at : ReportPose → P) (places : ℕ → P) (by : PlannerOn W) (w : W) (batches : List (List Write))
     (how : SearchJob) (outputs : Outputs) (starts : ℕ → ℕ) (goal : ℕ) where
   -- what the mark of a plan says, of plans from plan k on
   pub marked_from : (records : List PlanRecord) (k : ℕ) (log : List Entry) (before : Option Carried)

@@ -11,14 +11,14 @@ use Rattle.sbpl_promises.specs.sbpl_map.MapAfter.{IsMapAfter}
 use Rattle.sbpl_promises.specs.sbpl_nav2d.World.{GridWorld, IsGridWorld, over_map}
 use Rattle.sbpl_promises.specs.sbpl_plan.declared.found.Found.{Found}
 use Rattle.sbpl_promises.specs.sbpl_report.declared.record.PlanRecord.{PlanRecord}
-use Rattle.sbpl_promises.specs.Asked.{known}
-use Rattle.sbpl_promises.specs.GridSite.{grid_site, grid_wording}
+use Rattle.sbpl_promises.specs.Asked.{planner_for}
+use Rattle.sbpl_promises.specs.GridSite.{grid_site, grid_reporting}
 use Rattle.sbpl_promises.specs.Headline.{ArePlans}
 use Rattle.sbpl_promises.specs.Intents.{plans_writes}
 use Rattle.sbpl_promises.specs.Published.{Entry}
 use Rattle.sbpl_promises.specs.Sites.{start_after}
 use Rattle.sbpl_promises.specs.Writing.{AreAppended}
-use Rattle.sbpl_promises.specs.declared.course.Course.{Course}
+use Rattle.sbpl_promises.specs.declared.updates.Updates.{Updates}
 use Rattle.sbpl_headline.specs.Files.{IsChangeText}
 use Rattle.sbpl_headline.specs.Grid.{Moves, Square}
 use Rattle.sbpl_headline.specs.Headline.{ArePlanned, Read}
@@ -35,20 +35,20 @@ use Rattle.sbpl_headline.proofs.Stepping.{keeps_on_grid}
 use Rattle.sbpl_headline.proofs.Told.{lines_of, map_with, square_of}
 
 -- the start of each plan, where no line says where the robot is
-starts_still : (w : GridWorld) (start k : ℕ) (course : Course) → course.moves ≡ None
-    → start_after grid_wording w start course.moves k ≡ start
-starts_still w start k course still = rw still refl
+starts_still : (w : GridWorld) (start k : ℕ) (updates : Updates) → updates.moves ≡ None
+    → start_after grid_reporting w start updates.moves k ≡ start
+starts_still w start k updates still = rw still refl
 
-module _ (w : GridWorld) (width : w.map.width ≡ w.env.width) (height : w.map.height ≡ w.env.height) (course : Course)
-    (still : course.moves ≡ None) (told : List (List Given)) (many : length (lines_of told) ≡ length course.batches)
-    (costs : (k : ℕ) (now : CellMap) → IsMapAfter w.map course.batches k now
+module _ (w : GridWorld) (width : w.map.width ≡ w.env.width) (height : w.map.height ≡ w.env.height) (updates : Updates)
+    (still : updates.moves ≡ None) (told : List (List Given)) (many : length (lines_of told) ≡ length updates.batches)
+    (costs : (k : ℕ) (now : CellMap) → IsMapAfter w.map updates.batches k now
     → (x y : ℤ) (c : ℕ) → (cost_at now x y ≡ Some c) ↔ Costs (map_with w.map told k) x y c)
     (how : SearchJob) (outputs : Outputs) (records : List PlanRecord) (log : List Entry) (broken : List Found)
-    (plans : ArePlans grid_site w course how outputs records true log broken) (asked : Asked)
+    (plans : ArePlans grid_site w updates how outputs records true log broken) (asked : Asked)
     (bound : how.bound ≡ asked.bound) (budget : how.budget ≡ asked.budget) where
   -- the square from which plan k goes
   abbrev places : ℕ → Square
-  places k = square_of w.env.width (start_after grid_wording w plans.start course.moves k)
+  places k = square_of w.env.width (start_after grid_reporting w plans.start updates.moves k)
 
   -- on the map after k batches the promises of a plan are kept from this square to that one, within a bound
   abbrev Kept : ℕ → (start goal : Square) → (bound : ℕ) → Plan Square → Type 0
@@ -56,16 +56,16 @@ module _ (w : GridWorld) (width : w.map.width ≡ w.env.width) (height : w.map.h
 
   -- a plan on the grid starts and keeps its promises as the headline says
   grid_plan_shown : (k : ℕ) (p : Plan Square)
-      → IsToldPlan square_at places (known grid_site how.planner) w course.batches how outputs
-      (start_after grid_wording w plans.start course.moves) plans.goal k p
+      → IsToldPlan square_at places (planner_for grid_site how.planner) w updates.batches how outputs
+      (start_after grid_reporting w plans.start updates.moves) plans.goal k p
       → IsShown (Moves w.env.obsthresh) (λ m s. s ≡ square_of w.env.width w.env.start)
       (square_of w.env.width w.env.end) asked
       (map_with w.map told k) p
   grid_plan_shown k p is =
       let v : GridWorld = over_map w is.carried.map in
       let v_is : IsGridWorld v = is.plan.is_world in
-      let from : ℕ = start_after grid_wording w plans.start course.moves k in
-      let first : from ≡ w.env.start = starts_still w plans.start k course still ∙ plans.start_is in
+      let from : ℕ = start_after grid_reporting w plans.start updates.moves k in
+      let first : from ≡ w.env.start = starts_still w plans.start k updates still ∙ plans.start_is in
       let right : w.map.width ≡ v.map.width = width ∙ sym v_is.width in
       let high : w.map.height ≡ v.map.height = height ∙ sym v_is.height in
       let end : Square = square_of w.env.width w.env.end in
@@ -91,8 +91,8 @@ module _ (w : GridWorld) (width : w.map.width ≡ w.env.width) (height : w.map.h
   plans_on_grid before after away written changes =
       plans_are_shown square_at square_words some_square places (Moves w.env.obsthresh)
       (λ m s. s ≡ square_of w.env.width w.env.start) (square_of w.env.width w.env.end) asked (map_with w.map told 0)
-      (lines_of told) grid_site w course how outputs records log broken plans before after away written changes many
+      (lines_of told) grid_site w updates how outputs records log broken plans before after away written changes many
       budget
-      (records_on_grid how.planner w course.batches how outputs (start_after grid_wording w plans.start course.moves)
+      (records_on_grid how.planner w updates.batches how outputs (start_after grid_reporting w plans.start updates.moves)
       plans.goal records log plans.each)
       grid_plan_shown

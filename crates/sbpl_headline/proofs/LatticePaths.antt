@@ -14,8 +14,8 @@ use Rattle.sbpl_promises.specs.sbpl_plan.declared.result.Outcome.TheVariants as 
 use Rattle.sbpl_promises.specs.sbpl_report.declared.record.PathRecord.{PathRecord}
 use Rattle.sbpl_promises.specs.sbpl_report.declared.record.PathStep.{PathStep}
 use Rattle.sbpl_promises.specs.sbpl_report.declared.record.PlanRecord.{PlanRecord}
-use Rattle.sbpl_promises.specs.sbpl_report.declared.record.Spot.{Spot}
-use Rattle.sbpl_promises.specs.sbpl_report.declared.record.Spot.TheVariants as spot
+use Rattle.sbpl_promises.specs.sbpl_report.declared.record.ReportPose.{ReportPose}
+use Rattle.sbpl_promises.specs.sbpl_report.declared.record.ReportPose.TheVariants as report_pose
 use Rattle.sbpl_promises.specs.Headline.{AreSteps, IsKnownWithin, IsNoneThere, IsWithinBound, Joins, KeepsPromises}
 use Rattle.sbpl_promises.specs.Sites.{searched_on}
 use Rattle.sbpl_promises.specs.LatticeSite.{IsPathStep, lattice_site}
@@ -25,10 +25,10 @@ use Rattle.sbpl_headline.proofs.Moving.{arc_by_moves, moves_by_arc, moves_of}
 use Rattle.sbpl_headline.proofs.Places.{state_of_place}
 use Rattle.sbpl_headline.proofs.Steps.{told_result, told_steps}
 
--- the place that a spot of a lattice tells
-abbrev pub spot_place : Spot → Place
-spot_place (spot.Pose p) = p
-spot_place (spot.Cell x y) = record { x = x; y = y; t = 0 }
+-- the place that a report pose of a lattice tells
+abbrev pub report_pose_place : ReportPose → Place
+report_pose_place (report_pose.Pose p) = p
+report_pose_place (report_pose.Cell x y) = record { x = x; y = y; t = 0 }
 
 module _ (w : World) (is_world : IsWorld w) (m : Map)
     (costs : (x y : ℤ) (c : ℕ) → (cost_at w.map x y ≡ Some c) ↔ Costs m x y c) where
@@ -46,7 +46,7 @@ module _ (w : World) (is_world : IsWorld w) (m : Map)
     -- the steps that are printed for a free path path_is along it
     pub path_by_arcs : (s : ℕ) (arcs : List ℕ) (goal c : ℕ) (steps : List PathStep)
         → IsFreePath (network_of w) s arcs goal c → AreSteps lattice_site w s arcs steps
-        → IsPath (moves_of w m) (place_of w.env s) (told_steps spot_place steps) (place_of w.env goal) c
+        → IsPath (moves_of w m) (place_of w.env s) (told_steps report_pose_place steps) (place_of w.env goal) c
     path_by_arcs s [] goal c [] path are = (ap (place_of w.env) path.0, path.1)
     path_by_arcs s [] goal c (step ∷ steps) path are = absurd are
     path_by_arcs s (k ∷ ks) goal c [] path are = absurd are
@@ -54,7 +54,7 @@ module _ (w : World) (is_world : IsWorld w) (m : Map)
         let u : ℕ = path.0 in
         let same : are.0 ≡ u = same_Some are.0 u (sym are.1 ∙ path.3.head) in
         let printed : IsPathStep w s k u step = subst (λ (t : ℕ). IsPathStep w s k t step) same are.2 in
-        let there : place_of w.env u ≡ spot_place step.spot = sym (ap spot_place printed.spot) in
+        let there : place_of w.env u ≡ report_pose_place step.report_pose = sym (ap report_pose_place printed.report_pose) in
         let moves = moves_by_arc w is_world m costs (network_of w) has s k u path.1 step path.3 printed in
         let rest =
         path_by_arcs u ks goal path.2 steps path.4
@@ -64,7 +64,7 @@ module _ (w : World) (is_world : IsWorld w) (m : Map)
           subst (λ (q : Place). moves_of w m (place_of w.env s) (record { id = step.id; place = q }) path.1)
               there moves,
           subst (λ (q : Place).
-              IsPath (moves_of w m) q (told_steps spot_place steps) (place_of w.env goal) path.2) there rest,
+              IsPath (moves_of w m) q (told_steps report_pose_place steps) (place_of w.env goal) path.2) there rest,
           path.5,
         )
 
@@ -85,7 +85,7 @@ module _ (w : World) (is_world : IsWorld w) (m : Map)
         → Joins (searched_on lattice_site back) w s goal o
         → IsWithinBound (network_of w) s goal o → IsNoneThere (network_of w) s goal o
         → (spent ≡ None → IsKnownWithin asked o)
-        → Keeps (moves_of w m) (place_of w.env s) (place_of w.env goal) asked spent (told_result spot_place o)
+        → Keeps (moves_of w m) (place_of w.env s) (place_of w.env goal) asked spent (told_result report_pose_place o)
     keeps_result back s goal asked spent (outcome.Path path) joins within none known = (
       path_by_arcs s path.arcs goal path.cost path.steps joins.free joins.steps,
       λ unspent. (known unspent).1,
@@ -99,7 +99,7 @@ module _ (w : World) (is_world : IsWorld w) (m : Map)
     pub keeps : (back : Bool) (start goal asked : ℕ) (r : PlanRecord)
         → KeepsPromises (searched_on lattice_site back) w start goal asked r
         → Keeps (moves_of w m) (place_of w.env start) (place_of w.env goal) asked r.spent
-        (told_result spot_place r.outcome)
+        (told_result report_pose_place r.outcome)
     keeps back start goal asked r promises =
         keeps_result back start goal asked r.spent r.outcome promises.joins promises.within_the_bound promises.none
         promises.unless_spent

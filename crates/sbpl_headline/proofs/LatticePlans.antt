@@ -14,16 +14,16 @@ use Rattle.sbpl_promises.specs.sbpl_map.ChangeText.{Given}
 use Rattle.sbpl_promises.specs.sbpl_map.MapAfter.{IsMapAfter}
 use Rattle.sbpl_promises.specs.sbpl_plan.declared.found.Found.{Found}
 use Rattle.sbpl_promises.specs.sbpl_report.declared.record.PlanRecord.{PlanRecord}
-use Rattle.sbpl_promises.specs.sbpl_report.declared.record.Spot.{Spot}
-use Rattle.sbpl_promises.specs.sbpl_report.declared.record.Spot.TheVariants as spot
-use Rattle.sbpl_promises.specs.Asked.{known}
+use Rattle.sbpl_promises.specs.sbpl_report.declared.record.ReportPose.{ReportPose}
+use Rattle.sbpl_promises.specs.sbpl_report.declared.record.ReportPose.TheVariants as report_pose
+use Rattle.sbpl_promises.specs.Asked.{planner_for}
 use Rattle.sbpl_promises.specs.Headline.{ArePlans, KeepsPromises}
 use Rattle.sbpl_promises.specs.Intents.{plans_writes}
-use Rattle.sbpl_promises.specs.LatticeSite.{lattice_site, lattice_wording}
+use Rattle.sbpl_promises.specs.LatticeSite.{lattice_site, lattice_reporting}
 use Rattle.sbpl_promises.specs.Published.{Entry}
 use Rattle.sbpl_promises.specs.Sites.{searched_on, start_after}
 use Rattle.sbpl_promises.specs.Writing.{AreAppended}
-use Rattle.sbpl_promises.specs.declared.course.Course.{Course}
+use Rattle.sbpl_promises.specs.declared.updates.Updates.{Updates}
 use Rattle.sbpl_headline.specs.Files.{IsChangeText}
 use Rattle.sbpl_headline.specs.Headline.{ArePlanned, Read}
 use Rattle.sbpl_headline.specs.Map.{Costs, Map}
@@ -41,7 +41,7 @@ use Rattle.sbpl_headline.proofs.Steps.{told_result}
 use Rattle.sbpl_headline.proofs.Told.{lines_of, map_with}
 
 -- on each map of a world's size what is promised of a plan is kept in the motions of a lattice
-abbrev pub PromisesAreKept : (Spot → Place) → World → Type 0
+abbrev pub PromisesAreKept : (ReportPose → Place) → World → Type 0
 PromisesAreKept at w =
     (now : CellMap) (m : Map) → IsWorld (over_map w now) → HasLatticeArcs (network_of (over_map w now)) (over_map w now)
     → ((x y : ℤ) (c : ℕ) → (cost_at now x y ≡ Some c) ↔ Costs m x y c)
@@ -49,23 +49,23 @@ PromisesAreKept at w =
     → KeepsPromises (searched_on lattice_site back) (over_map w now) start goal asked r
     → Keeps (moves_of w m) (place_of w.env start) (place_of w.env goal) asked r.spent (told_result at r.outcome)
 
-module _ (at : Spot → Place) (poses : (q : Place) → at (spot.Pose q) ≡ q) (w : World) (course : Course)
-    (told : List (List Given)) (many : length (lines_of told) ≡ length course.batches)
-    (costs : (k : ℕ) (now : CellMap) → IsMapAfter w.map course.batches k now
+module _ (at : ReportPose → Place) (poses : (q : Place) → at (report_pose.Pose q) ≡ q) (w : World) (updates : Updates)
+    (told : List (List Given)) (many : length (lines_of told) ≡ length updates.batches)
+    (costs : (k : ℕ) (now : CellMap) → IsMapAfter w.map updates.batches k now
     → (x y : ℤ) (c : ℕ) → (cost_at now x y ≡ Some c) ↔ Costs (map_with w.map told k) x y c)
     (how : SearchJob) (outputs : Outputs) (records : List PlanRecord) (log : List Entry) (broken : List Found)
-    (plans : ArePlans lattice_site w course how outputs records true log broken) (asked : Asked)
+    (plans : ArePlans lattice_site w updates how outputs records true log broken) (asked : Asked)
     (bound : how.bound ≡ asked.bound) (budget : how.budget ≡ asked.budget) (goal : Place)
     (goal_is : place_of w.env plans.goal ≡ goal) (promises : PromisesAreKept at w)
     (starts : (k : ℕ) → Starts w.env (map_with w.map told k)
-    (place_of w.env (start_after lattice_wording w plans.start course.moves k))) where
+    (place_of w.env (start_after lattice_reporting w plans.start updates.moves k))) where
   -- the place from which plan k goes
   abbrev from : ℕ → Place
-  from k = place_of w.env (start_after lattice_wording w plans.start course.moves k)
+  from k = place_of w.env (start_after lattice_reporting w plans.start updates.moves k)
 
-  -- as its spot tells it
+  -- as its report pose tells it
   abbrev places : ℕ → Place
-  places k = at (spot.Pose (from k))
+  places k = at (report_pose.Pose (from k))
 
   -- on the map after k batches the promises of a plan are kept from this place to that one, within a bound
   abbrev Kept : ℕ → (start goal : Place) → (bound : ℕ) → Plan Place → Type 0
@@ -73,15 +73,15 @@ module _ (at : Spot → Place) (poses : (q : Place) → at (spot.Pose q) ≡ q) 
 
   -- a plan on the lattice starts and keeps its promises as the headline says
   lattice_plan_shown : (k : ℕ) (p : Plan Place)
-      → IsToldPlan at places (known lattice_site how.planner) w course.batches how outputs
-      (start_after lattice_wording w plans.start course.moves) plans.goal k p
+      → IsToldPlan at places (planner_for lattice_site how.planner) w updates.batches how outputs
+      (start_after lattice_reporting w plans.start updates.moves) plans.goal k p
       → IsShown (moves_of w) (Starts w.env) goal asked (map_with w.map told k) p
   lattice_plan_shown k p is =
       let made : Plan Place = told_plan at (places k) is.made in
       let starts_at : from k ≡ p.start = sym (poses (from k)) ∙ ap (λ (q : Plan Place). q.start) is.told in
       let kept : Kept k (from k) (place_of w.env plans.goal) how.bound made =
       promises is.carried.map (map_with w.map told k) is.plan.is_world is.plan.arcs.arcs
-      (costs k is.carried.map is.map_is) (may_move how.planner) (start_after lattice_wording w plans.start course.moves k) plans.goal how.bound
+      (costs k is.carried.map is.map_is) (may_move how.planner) (start_after lattice_reporting w plans.start updates.moves k) plans.goal how.bound
       is.made is.plan.promises in
       let there : Kept k (from k) goal how.bound made =
       subst (λ (q : Place). Kept k (from k) q how.bound made) goal_is kept in
@@ -100,7 +100,7 @@ module _ (at : Spot → Place) (poses : (q : Place) → at (spot.Pose q) ≡ q) 
       → ArePlanned (moves_of w) (Starts w.env) pose_words goal asked (map_with w.map told 0) before after
   plans_on_lattice before after away written changes =
       plans_are_shown at pose_words some_pose places (moves_of w) (Starts w.env) goal asked (map_with w.map told 0)
-      (lines_of told) lattice_site w course how outputs records log broken plans before after away written changes many
-      budget (records_on_lattice at poses how.planner w course.batches how outputs
-      (start_after lattice_wording w plans.start course.moves) plans.goal records log plans.each)
+      (lines_of told) lattice_site w updates how outputs records log broken plans before after away written changes many
+      budget (records_on_lattice at poses how.planner w updates.batches how outputs
+      (start_after lattice_reporting w plans.start updates.moves) plans.goal records log plans.each)
       lattice_plan_shown

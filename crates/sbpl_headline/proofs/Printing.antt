@@ -10,17 +10,17 @@ use Rattle.sbpl_promises.specs.sbpl_fixed.Printed.{line_text, milli_text, point_
 use Rattle.sbpl_promises.specs.sbpl_job.declared.job.Outputs.{Outputs}
 use Rattle.sbpl_promises.specs.sbpl_plan.declared.found.Found.{Found}
 use Rattle.sbpl_promises.specs.sbpl_plan.declared.found.Found.TheVariants as found
-use Rattle.sbpl_promises.specs.sbpl_plan.declared.passes.Pass.{Pass}
+use Rattle.sbpl_promises.specs.sbpl_plan.declared.passes.PassRecord.{PassRecord}
 use Rattle.sbpl_promises.specs.sbpl_plan.declared.result.Outcome.{Outcome}
 use Rattle.sbpl_promises.specs.sbpl_plan.declared.result.Outcome.TheVariants as outcome
 use Rattle.sbpl_promises.specs.sbpl_report.declared.record.PathRecord.{PathRecord}
 use Rattle.sbpl_promises.specs.sbpl_report.declared.record.PathStep.{PathStep}
 use Rattle.sbpl_promises.specs.sbpl_report.declared.record.PlanRecord.{PlanRecord}
-use Rattle.sbpl_promises.specs.sbpl_report.declared.record.Spot.{Spot}
-use Rattle.sbpl_promises.specs.sbpl_report.declared.record.Spot.TheVariants as spot
+use Rattle.sbpl_promises.specs.sbpl_report.declared.record.ReportPose.{ReportPose}
+use Rattle.sbpl_promises.specs.sbpl_report.declared.record.ReportPose.TheVariants as report_pose
 use Rattle.sbpl_promises.specs.sbpl_report.declared.record.TraceLine.{TraceLine}
 use Rattle.sbpl_promises.specs.sbpl_report.Report.{found_text, line_feed, outcome_text, pass_text, path_text, place_text}
-use Rattle.sbpl_promises.specs.sbpl_report.Report.{section_text, spent_text, spot_text, step_text}
+use Rattle.sbpl_promises.specs.sbpl_report.Report.{section_text, spent_text, report_pose_text, step_text}
 use Rattle.sbpl_promises.specs.Intents.{end_writes, plans_writes, section_writes}
 use Rattle.sbpl_promises.specs.Intents.{incumbent_writes, labels_writes, trace_writes}
 use Rattle.sbpl_promises.specs.Writing.{Write, output, text_under, to_named}
@@ -56,12 +56,12 @@ pass_line inflation expanded found.None = refl
 pass_line inflation expanded found.Broken = refl
 
 -- the line of a pass
-pass_told : (p : Pass TraceLine) → pass_text p ≡ plain.pass_text (told_pass p)
+pass_told : (p : PassRecord TraceLine) → pass_text p ≡ plain.pass_text (told_pass p)
 unfolding pass_text
 pass_told p = pass_line p.inflation p.expanded p.found
 
 -- the lines of passes
-passes_told : (ps : List (Pass TraceLine)) → flat_map pass_text ps ≡ flat_map plain.pass_text (map told_pass ps)
+passes_told : (ps : List (PassRecord TraceLine)) → flat_map pass_text ps ≡ flat_map plain.pass_text (map told_pass ps)
 passes_told [] = refl
 passes_told (p ∷ ps) = let first = pass_told p in let rest = passes_told ps in λ i. first i ++ rest i
 
@@ -88,23 +88,23 @@ path_line steps cost bound rest = simp append_assoc
 
 -- ---- plans
 
--- a spot's end of a line is that of the place for which it stands
-abbrev pub IsSpotTold : {P : Type 0} → (Spot → P) → (P → List (List ℕ)) → Spot → Type 0
-IsSpotTold at words s = spot_text s ≡ line_text (words (at s))
+-- a report pose's end of a line is that of the place for which it stands
+abbrev pub IsReportPoseTold : {P : Type 0} → (ReportPose → P) → (P → List (List ℕ)) → ReportPose → Type 0
+IsReportPoseTold at words s = report_pose_text s ≡ line_text (words (at s))
 
 -- so it is of each step
-abbrev pub AreSpotsTold : {P : Type 0} → (Spot → P) → (P → List (List ℕ)) → List PathStep → Type 0
-AreSpotsTold at words [] = Unit {0}
-AreSpotsTold at words (s ∷ steps) = IsSpotTold at words s.spot × AreSpotsTold at words steps
+abbrev pub AreReportPosesTold : {P : Type 0} → (ReportPose → P) → (P → List (List ℕ)) → List PathStep → Type 0
+AreReportPosesTold at words [] = Unit {0}
+AreReportPosesTold at words (s ∷ steps) = IsReportPoseTold at words s.report_pose × AreReportPosesTold at words steps
 
 -- and of a path, which begins at this start
-abbrev pub IsResultTold : {P : Type 0} → (Spot → P) → (P → List (List ℕ)) → (start : P) → Outcome PathRecord → Type 0
+abbrev pub IsResultTold : {P : Type 0} → (ReportPose → P) → (P → List (List ℕ)) → (start : P) → Outcome PathRecord → Type 0
 IsResultTold at words start (outcome.Path path) =
-    (at path.start ≡ start) × IsSpotTold at words path.start × AreSpotsTold at words path.steps
+    (at path.start ≡ start) × IsReportPoseTold at words path.start × AreReportPosesTold at words path.steps
 IsResultTold at words start _ = Unit {0}
 
 -- and of plans in turn, the first of which is plan k, each from its own start
-abbrev pub AreRecordsTold : {P : Type 0} → (Spot → P) → (P → List (List ℕ)) → (starts : ℕ → P) → (k : ℕ)
+abbrev pub AreRecordsTold : {P : Type 0} → (ReportPose → P) → (P → List (List ℕ)) → (starts : ℕ → P) → (k : ℕ)
     → List PlanRecord → Type 0
 AreRecordsTold at words starts k [] = Unit {0}
 AreRecordsTold at words starts k (r ∷ rs) =
@@ -153,18 +153,18 @@ section_under o r away =
     under_append output (labels_writes o r) (trace_writes o r ++ incumbent_writes o r) ∙ nothing _ _ labels last in
     ap (λ (texts : List ℕ). section_text r ++ texts) none ∙ append-nil (section_text r)
 
-module _ {P : Type 0} (at : Spot → P) (words : P → List (List ℕ)) (some : (p : P) → AreSome (words p)) where
+module _ {P : Type 0} (at : ReportPose → P) (words : P → List (List ℕ)) (some : (p : P) → AreSome (words p)) where
   -- the line of a step
-  step_told : (s : PathStep) → IsSpotTold at words s.spot
-      → step_text s ≡ line_text (codes "step" ∷ decimal s.id ∷ words (at s.spot))
+  step_told : (s : PathStep) → IsReportPoseTold at words s.report_pose
+      → step_text s ≡ line_text (codes "step" ∷ decimal s.id ∷ words (at s.report_pose))
   unfolding step_text line_text
   step_told s told =
       ap (λ (end : List ℕ). codes "step " ++ (decimal s.id ++ (codes " " ++ end))) told
       ∙ ap (λ (end : List ℕ). codes "step " ++ end)
-      (sym (line_more (decimal s.id) (words (at s.spot)) (some (at s.spot))))
+      (sym (line_more (decimal s.id) (words (at s.report_pose)) (some (at s.report_pose))))
 
   -- the lines of steps
-  steps_told : (steps : List PathStep) → AreSpotsTold at words steps
+  steps_told : (steps : List PathStep) → AreReportPosesTold at words steps
       → flat_map step_text steps
       ≡ flat_map (λ s. line_text (codes "step" ∷ decimal s.id ∷ words s.place)) (told_steps at steps)
   steps_told [] told = refl
@@ -172,8 +172,8 @@ module _ {P : Type 0} (at : Spot → P) (words : P → List (List ℕ)) (some : 
       let first = step_told s told.0 in let rest = steps_told steps told.1 in λ i. first i ++ rest i
 
   -- the line of a path's start
-  start_told : (s : Spot) → IsSpotTold at words s
-      → codes "pose " ++ spot_text s ≡ line_text (codes "pose" ∷ words (at s))
+  start_told : (s : ReportPose) → IsReportPoseTold at words s
+      → codes "pose " ++ report_pose_text s ≡ line_text (codes "pose" ∷ words (at s))
   start_told s told =
       ap (λ (end : List ℕ). codes "pose " ++ end) told ∙ sym (line_more (codes "pose") (words (at s)) (some (at s)))
 
@@ -184,19 +184,19 @@ module _ {P : Type 0} (at : Spot → P) (words : P → List (List ℕ)) (some : 
   result_told start (outcome.Path path) told =
       let count : length path.steps ≡ length (told_steps at path.steps) =
       sym (length-map path.steps (told_step at)) in
-      let pose : codes "pose " ++ spot_text path.start ≡ line_text (codes "pose" ∷ words start) =
+      let pose : codes "pose " ++ report_pose_text path.start ≡ line_text (codes "pose" ∷ words start) =
       start_told path.start told.1 ∙ ap (λ (p : P). line_text (codes "pose" ∷ words p)) told.0 in
       let steps = steps_told path.steps told.2 in
-      let rest : codes "pose " ++ (spot_text path.start ++ flat_map step_text path.steps)
+      let rest : codes "pose " ++ (report_pose_text path.start ++ flat_map step_text path.steps)
       ≡ line_text (codes "pose" ∷ words start)
       ++ flat_map (λ s. line_text (codes "step" ∷ decimal s.id ∷ words s.place))
       (told_steps at path.steps) =
-      sym (append_assoc (codes "pose ") (spot_text path.start) (flat_map step_text path.steps))
+      sym (append_assoc (codes "pose ") (report_pose_text path.start) (flat_map step_text path.steps))
       ∙ ap₂ ◌++◌ pose steps in
       let first = ap (λ (n : ℕ). line_text (codes "path" ∷ decimal n ∷ codes "cost" ∷ decimal path.cost
       ∷ codes "bound" ∷ point_text 3 path.bound ∷ [])) count in
       path_line (length path.steps) path.cost path.bound
-      (codes "pose " ++ (spot_text path.start ++ flat_map step_text path.steps))
+      (codes "pose " ++ (report_pose_text path.start ++ flat_map step_text path.steps))
       ∙ ap₂ ◌++◌ first rest
   result_told start outcome.NoPath told = refl
   result_told start outcome.Unknown told = refl
@@ -251,13 +251,13 @@ module _ {P : Type 0} (at : Spot → P) (words : P → List (List ℕ)) (some : 
 -- ---- places
 
 -- a pose is printed in these words
-pub pose_line : (at : Spot → Place) → ((p : Place) → at (spot.Pose p) ≡ p) → (p : Place)
-    → IsSpotTold at pose_words (spot.Pose p)
+pub pose_line : (at : ReportPose → Place) → ((p : Place) → at (report_pose.Pose p) ≡ p) → (p : Place)
+    → IsReportPoseTold at pose_words (report_pose.Pose p)
 unfolding place_text line_text
 pose_line at poses p = ap (λ (place : Place). line_text (pose_words place)) (sym (poses p))
 
 -- and a cell in these
-pub square_line : (x y : ℕ) → IsSpotTold square_at square_words (spot.Cell x y)
+pub square_line : (x y : ℕ) → IsReportPoseTold square_at square_words (report_pose.Cell x y)
 unfolding line_text
 square_line x y = refl
 

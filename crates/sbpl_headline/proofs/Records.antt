@@ -1,4 +1,4 @@
--- The records of plans at a site are told: each has its number, and the spots of its path are those of states.
+-- The records of plans at a site are told: each has its number, and the report poses of its path are those of states.
 use Rattle.std.proofs.Common.{◌≡◌, ℕ, zero, suc, ◌+◌, List, [], ◌∷◌, Option, Some, None, slice_get}
 use Rattle.std.proofs.Common.{refl, sym, ap, subst, ◌∙◌, add-one, add-zero, zero-add, arith}
 use Rattle.std.proofs.lemmas.Option.{same_Some}
@@ -17,9 +17,9 @@ use Rattle.sbpl_promises.specs.sbpl_plan.declared.result.Outcome.TheVariants as 
 use Rattle.sbpl_promises.specs.sbpl_report.declared.record.PathRecord.{PathRecord}
 use Rattle.sbpl_promises.specs.sbpl_report.declared.record.PathStep.{PathStep}
 use Rattle.sbpl_promises.specs.sbpl_report.declared.record.PlanRecord.{PlanRecord}
-use Rattle.sbpl_promises.specs.sbpl_report.declared.record.Spot.{Spot}
-use Rattle.sbpl_promises.specs.sbpl_report.declared.record.Spot.TheVariants as spot
-use Rattle.sbpl_promises.specs.Asked.{Known, known}
+use Rattle.sbpl_promises.specs.sbpl_report.declared.record.ReportPose.{ReportPose}
+use Rattle.sbpl_promises.specs.sbpl_report.declared.record.ReportPose.TheVariants as report_pose
+use Rattle.sbpl_promises.specs.Asked.{PlannerOn, planner_for}
 use Rattle.sbpl_promises.specs.GridSite.{grid_site}
 use Rattle.sbpl_promises.specs.Headline.{AreRecords, AreSteps, Carried, IsPlanOf, Joins}
 use Rattle.sbpl_promises.specs.LatticeSite.{lattice_site}
@@ -27,11 +27,11 @@ use Rattle.sbpl_promises.specs.Published.{Entry, with_plan}
 use Rattle.sbpl_headline.specs.Path.{Plan}
 use Rattle.sbpl_headline.specs.Report.{pose_words, square_words}
 use Rattle.sbpl_headline.proofs.Plans.{square_at, told_plan, told_plans}
-use Rattle.sbpl_headline.proofs.Printing.{AreRecordsTold, AreSpotsTold, IsResultTold, IsSpotTold}
+use Rattle.sbpl_headline.proofs.Printing.{AreRecordsTold, AreReportPosesTold, IsResultTold, IsReportPoseTold}
 use Rattle.sbpl_headline.proofs.Printing.{pose_line, square_line}
 use Rattle.sbpl_headline.proofs.Told.{square_of}
 
-module _ {P W : Type 0} (at : Spot → P) (places : ℕ → P) (by : Known W) (w : W) (batches : List (List Write))
+module _ {P W : Type 0} (at : ReportPose → P) (places : ℕ → P) (by : PlannerOn W) (w : W) (batches : List (List Write))
     (how : SearchJob) (outputs : Outputs) (starts : ℕ → ℕ) (goal : ℕ) where
   -- a plan at a site, told: of this record, made on the map after k batches, as plan k
   pub record IsToldPlan (k : ℕ) (p : Plan P) : Type 0 where
@@ -76,26 +76,26 @@ module _ {P W : Type 0} (at : Spot → P) (places : ℕ → P) (by : Known W) (w
       subst (λ (i : ℕ). IsToldPlan i p) (zero-add k)
       (plan_from records 0 log None each k p here)
 
-module _ {P W : Type 0} (at : Spot → P) (words : P → List (List ℕ)) (by : Known W) (w : W)
-    (same : (m : CellMap) (s : ℕ) → by.on.wording.spot (by.on.cells.over w m) s ≡ by.on.wording.spot w s)
-    (spot_told : (v : W) (s : ℕ) → IsSpotTold at words (by.on.wording.spot v s))
-    (step_told : (v : W) (s k t : ℕ) (step : PathStep) → by.on.wording.step v s k t step
-    → IsSpotTold at words step.spot) where
-  -- the spots of steps
-  spots_told : (v : W) (s : ℕ) (arcs : List ℕ) (steps : List PathStep) → AreSteps by.on v s arcs steps
-      → AreSpotsTold at words steps
-  spots_told v s [] [] are = tt
-  spots_told v s [] (x ∷ xs) are = absurd are
-  spots_told v s (k ∷ ks) [] are = absurd are
-  spots_told v s (k ∷ ks) (x ∷ xs) (t, head, step, steps) = (step_told v s k t x step, spots_told v t ks xs steps)
+module _ {P W : Type 0} (at : ReportPose → P) (words : P → List (List ℕ)) (by : PlannerOn W) (w : W)
+    (same : (m : CellMap) (s : ℕ) → by.on.reporting.report_pose (by.on.cells.over w m) s ≡ by.on.reporting.report_pose w s)
+    (report_pose_told : (v : W) (s : ℕ) → IsReportPoseTold at words (by.on.reporting.report_pose v s))
+    (step_told : (v : W) (s k t : ℕ) (step : PathStep) → by.on.reporting.step v s k t step
+    → IsReportPoseTold at words step.report_pose) where
+  -- the report poses of steps
+  report_poses_told : (v : W) (s : ℕ) (arcs : List ℕ) (steps : List PathStep) → AreSteps by.on v s arcs steps
+      → AreReportPosesTold at words steps
+  report_poses_told v s [] [] are = tt
+  report_poses_told v s [] (x ∷ xs) are = absurd are
+  report_poses_told v s (k ∷ ks) [] are = absurd are
+  report_poses_told v s (k ∷ ks) (x ∷ xs) (t, head, step, steps) = (step_told v s k t x step, report_poses_told v t ks xs steps)
 
-  -- the spots of a result
-  result_told : (v : W) (start goal : ℕ) (place : P) (o : Outcome PathRecord) → at (by.on.wording.spot v start) ≡ place
+  -- the report poses of a result
+  result_told : (v : W) (start goal : ℕ) (place : P) (o : Outcome PathRecord) → at (by.on.reporting.report_pose v start) ≡ place
       → Joins by.on v start goal o → IsResultTold at words place o
   result_told v start goal place (outcome.Path path) is joins = (
     ap at joins.from ∙ is,
-    subst (IsSpotTold at words) (sym joins.from) (spot_told v start),
-    spots_told v start path.arcs path.steps joins.steps,
+    subst (IsReportPoseTold at words) (sym joins.from) (report_pose_told v start),
+    report_poses_told v start path.arcs path.steps joins.steps,
   )
   result_told v start goal place outcome.NoPath is joins = tt
   result_told v start goal place outcome.Unknown is joins = tt
@@ -104,7 +104,7 @@ module _ {P W : Type 0} (at : Spot → P) (words : P → List (List ℕ)) (by : 
   pub records_told : (batches : List (List Write)) (how : SearchJob) (outputs : Outputs) (starts : ℕ → ℕ) (goal : ℕ)
       (records : List PlanRecord) (k : ℕ) (log : List Entry) (before : Option Carried)
       → AreRecords by w batches how outputs starts goal k log before records
-      → AreRecordsTold at words (λ j. at (by.on.wording.spot w (starts j))) k records
+      → AreRecordsTold at words (λ j. at (by.on.reporting.report_pose w (starts j))) k records
   records_told batches how outputs starts goal [] k log before each = tt
   records_told batches how outputs starts goal (r ∷ rs) k log before (carried, map_is, plan, each) =
       let v : W = by.on.cells.over w carried.map in
@@ -121,20 +121,20 @@ module _ {P W : Type 0} (at : Spot → P) (words : P → List (List ℕ)) (by : 
 -- the records of plans on a grid are told by their squares
 pub records_on_grid : (p : Planner) (w : GridWorld) (batches : List (List Write)) (how : SearchJob) (outputs : Outputs)
     (starts : ℕ → ℕ) (goal : ℕ) (records : List PlanRecord) (log : List Entry)
-    → AreRecords (known grid_site p) w batches how outputs starts goal 0 log None records
+    → AreRecords (planner_for grid_site p) w batches how outputs starts goal 0 log None records
     → AreRecordsTold square_at square_words (λ j. square_of w.env.width (starts j)) 0 records
 records_on_grid p w batches how outputs starts goal records log each =
-    records_told square_at square_words (known grid_site p) w (λ m s. refl) (λ v s. square_line _ _)
-    (λ v s k t step is. subst (IsSpotTold square_at square_words) (sym is.spot) (square_line _ _))
+    records_told square_at square_words (planner_for grid_site p) w (λ m s. refl) (λ v s. square_line _ _)
+    (λ v s k t step is. subst (IsReportPoseTold square_at square_words) (sym is.report_pose) (square_line _ _))
     batches how outputs starts goal records 0 log None each
 
 -- and those of plans on a lattice by their places, where a pose stands for its own
-pub records_on_lattice : (at : Spot → Place) → ((q : Place) → at (spot.Pose q) ≡ q)
+pub records_on_lattice : (at : ReportPose → Place) → ((q : Place) → at (report_pose.Pose q) ≡ q)
     → (p : Planner) (w : World) (batches : List (List Write)) (how : SearchJob) (outputs : Outputs)
     (starts : ℕ → ℕ) (goal : ℕ) (records : List PlanRecord) (log : List Entry)
-    → AreRecords (known lattice_site p) w batches how outputs starts goal 0 log None records
-    → AreRecordsTold at pose_words (λ j. at (spot.Pose (place_of w.env (starts j)))) 0 records
+    → AreRecords (planner_for lattice_site p) w batches how outputs starts goal 0 log None records
+    → AreRecordsTold at pose_words (λ j. at (report_pose.Pose (place_of w.env (starts j)))) 0 records
 records_on_lattice at poses p w batches how outputs starts goal records log each =
-    records_told at pose_words (known lattice_site p) w (λ m s. refl) (λ v s. pose_line at poses (place_of v.env s))
-    (λ v s k t step is. subst (IsSpotTold at pose_words) (sym is.spot) (pose_line at poses (place_of v.env t)))
+    records_told at pose_words (planner_for lattice_site p) w (λ m s. refl) (λ v s. pose_line at poses (place_of v.env s))
+    (λ v s k t step is. subst (IsReportPoseTold at pose_words) (sym is.report_pose) (pose_line at poses (place_of v.env t)))
     batches how outputs starts goal records 0 log None each

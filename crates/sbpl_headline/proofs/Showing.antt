@@ -18,7 +18,7 @@ use Rattle.sbpl_promises.specs.sbpl_nav2d.World.{GridWorld}
 use Rattle.sbpl_promises.specs.Causes.{grid_files, grid_scope, plan_files, scope_of}
 use Rattle.sbpl_promises.specs.Promises.{AtJob, IsDone, IsReported}
 use Rattle.sbpl_promises.specs.Published.{Entry}
-use Rattle.sbpl_promises.specs.declared.course.Course.{Course}
+use Rattle.sbpl_promises.specs.declared.updates.Updates.{Updates}
 use Rattle.sbpl_headline.specs.Headline.{ArePlanned, IsPlanned, IsPlannedOnGrid}
 use Rattle.sbpl_headline.specs.Law.{PromisesShowHeadline}
 use Rattle.sbpl_headline.specs.Map.{Costs}
@@ -26,23 +26,23 @@ use Rattle.sbpl_headline.specs.Motion.{Moves, Starts}
 use Rattle.sbpl_headline.specs.Report.{pose_words}
 use Rattle.sbpl_headline.specs.Words.{Ask}
 use Rattle.sbpl_headline.proofs.Asking.{NoDashes, asked_by, nav_asked, plan_asked}
-use Rattle.sbpl_headline.proofs.Changing.{IsCourseTold, course_told, stays}
+use Rattle.sbpl_headline.proofs.Changing.{AreUpdatesTold, updates_told, stays}
 use Rattle.sbpl_headline.proofs.GridPlans.{plans_on_grid}
 use Rattle.sbpl_headline.proofs.LatticePlans.{plans_on_lattice}
-use Rattle.sbpl_headline.proofs.LatticePaths.{keeps, spot_place}
+use Rattle.sbpl_headline.proofs.LatticePaths.{keeps, report_pose_place}
 use Rattle.sbpl_headline.proofs.Mapping.{costs_are}
 use Rattle.sbpl_headline.proofs.Places.{place_of_pose}
 use Rattle.sbpl_headline.proofs.Reading.{environment_says, grid_says, primitives_say}
 use Rattle.sbpl_headline.proofs.Starting.{starts_say}
 use Rattle.sbpl_headline.proofs.Told.{lines_of, map_with, square_of}
 
--- the lines of a change file have as many batches as its course
-as_many : (told : List (List Given)) (c : Course) → length told ≡ length c.batches
+-- the lines of a change file have as many batches as its updates
+as_many : (told : List (List Given)) (c : Updates) → length told ≡ length c.batches
     → length (lines_of told) ≡ length c.batches
 as_many told c count = length-map told _ ∙ count
 
--- the costs of a map after the first batches of a course are those of the lines
-costs_told : (first : CellMap) (told : List (List Given)) (c : Course) → c.batches ≡ map writes_of told
+-- the costs of a map after the first batches of map updates are those of the lines
+costs_told : (first : CellMap) (told : List (List Given)) (c : Updates) → c.batches ≡ map writes_of told
     → (k : ℕ) (now : CellMap) → IsMapAfter first c.batches k now
     → (x y : ℤ) (cost : ℕ) → (cost_at now x y ≡ Some cost) ↔ Costs (map_with first told k) x y cost
 costs_told first told c same k now after =
@@ -59,8 +59,8 @@ plan_shown rest before after old p ask away done =
     let says = planned.says in
     let moving = may_move p.search.planner in
     let good = says.environment.stands.environment in
-    let t : IsCourseTold before.held p.changes (scope_of moving w) planned.course =
-    course_told before.held p.changes (scope_of moving w) planned.course planned.changes_say in
+    let t : AreUpdatesTold before.held p.changes (scope_of moving w) planned.updates =
+    updates_told before.held p.changes (scope_of moving w) planned.updates planned.changes_say in
     let wide : w.map.width ≡ w.env.width = ap (λ (m : CellMap). m.width) says.map in
     let goal_is : IsPlaceOf w.env w.env.end (place_of w.env planned.plans.goal) =
     place_of_pose w.env good w.env.end planned.plans.goal good.end_on_map planned.plans.goal_is in
@@ -89,11 +89,11 @@ plan_shown rest before after old p ask away done =
           subst (λ (r : ℕ). ArePlanned (Moves w.env w.prims.items r) (Starts w.env) pose_words
           (place_of w.env planned.plans.goal) (asked_by p.changes p.sources.radius p.search) (map_with w.map t.told 0)
           before after) says.sweeps.radius_is
-          (plans_on_lattice spot_place (λ q. refl) w planned.course t.told (as_many t.told planned.course t.count)
-          (costs_told w.map t.told planned.course t.batches) p.search p.outputs done.records old [] planned.plans
+          (plans_on_lattice report_pose_place (λ q. refl) w planned.updates t.told (as_many t.told planned.updates t.count)
+          (costs_told w.map t.told planned.updates t.batches) p.search p.outputs done.records old [] planned.plans
           (asked_by p.changes p.sources.radius p.search) refl refl (place_of w.env planned.plans.goal) refl
           (λ now m is_world has costs. keeps (over_map w now) is_world m costs has)
-          (λ k. starts_say before.held p.changes moving w planned.course t w.map planned.plans.start k good wide
+          (λ k. starts_say before.held p.changes moving w planned.updates t w.map planned.plans.start k good wide
           planned.plans.start_is)
           before after away done.report t.says);
     }
@@ -106,8 +106,8 @@ nav_shown rest before after old n ask away done =
     let planned = done.planned in
     let w : GridWorld = planned.world in
     let says = planned.says in
-    let t : IsCourseTold before.held n.changes (grid_scope w) planned.course =
-    course_told before.held n.changes (grid_scope w) planned.course planned.changes_say in
+    let t : AreUpdatesTold before.held n.changes (grid_scope w) planned.updates =
+    updates_told before.held n.changes (grid_scope w) planned.updates planned.changes_say in
     let wide : w.map.width ≡ w.env.width = ap (λ (m : CellMap). m.width) says.map in
     let high : w.map.height ≡ w.env.height = ap (λ (m : CellMap). m.height) says.map in
     let costs : w.map.costs ≡ says.cells = ap (λ (m : CellMap). m.costs) says.map in
@@ -121,9 +121,9 @@ nav_shown rest before after old n ask away done =
       map = map_with w.map t.told 0;
       environment_read =
           (says.text, says.read.told, grid_says says.text w.env w.map t.told 0 (rw costs says.stands) wide high);
-      plans = plans_on_grid w wide high planned.course
-          (stays before.held n.changes (grid_scope w) planned.course t refl) t.told
-          (as_many t.told planned.course t.count) (costs_told w.map t.told planned.course t.batches) n.search n.outputs
+      plans = plans_on_grid w wide high planned.updates
+          (stays before.held n.changes (grid_scope w) planned.updates t refl) t.told
+          (as_many t.told planned.updates t.count) (costs_told w.map t.told planned.updates t.batches) n.search n.outputs
           done.records old [] planned.plans (asked_by n.changes 0 n.search) refl refl before after away done.report
           t.says;
     }

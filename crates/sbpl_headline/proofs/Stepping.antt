@@ -196,8 +196,8 @@ module _ (w : GridWorld) (is_world : IsGridWorld w) (is : IsGridNetwork (grid_si
   path_by_arcs s (k ∷ ks) [] t c path told = absurd told
   path_by_arcs s (k ∷ ks) (x ∷ xs) t c (u, a, b, arc, rest, sum) (v, head, step, steps) =
       let same : u ≡ v = same_Some u v (sym arc.head ∙ head) in
-      let place : square_of w.env.width u ≡ square_at x.spot =
-      ap (square_of w.env.width) same ∙ sym (ap square_at step.spot) in
+      let place : square_of w.env.width u ≡ square_at x.report_pose =
+      ap (square_of w.env.width) same ∙ sym (ap square_at step.report_pose) in
       let first : Moves w.env.obsthresh m (square_of w.env.width s) (told_step square_at x) a =
       subst (λ (one : Step Square). Moves w.env.obsthresh m (square_of w.env.width s) one a)
       (λ i. record { id = sym step.id i; place = place i })
@@ -205,7 +205,7 @@ module _ (w : GridWorld) (is_world : IsGridWorld w) (is : IsGridNetwork (grid_si
       let own : AreSteps grid_site w u ks xs =
       subst (λ (z : ℕ). AreSteps grid_site w z ks xs) (sym same) steps in
       let goal : Square = square_of w.env.width t in
-      let more : IsPath (Moves w.env.obsthresh m) (square_at x.spot) (told_steps square_at xs) goal b =
+      let more : IsPath (Moves w.env.obsthresh m) (square_at x.report_pose) (told_steps square_at xs) goal b =
       subst (λ (p : Square). IsPath (Moves w.env.obsthresh m) p (told_steps square_at xs) goal b) place
       (path_by_arcs u ks xs t b rest own) in
       (a, b, first, more, sum)

@@ -5,17 +5,17 @@ use Rattle.std.specs.List.{flat_map}
 use Rattle.sbpl_promises.specs.sbpl_map.CellMap.{CellMap}
 use Rattle.sbpl_promises.specs.sbpl_map.ChangeText.{Given}
 use Rattle.sbpl_promises.specs.sbpl_nav2d.Environment.{column_of, row_of}
-use Rattle.sbpl_headline.specs.Files.{Line, Cell, Start}
+use Rattle.sbpl_headline.specs.Files.{ChangeLine, Cell, Start}
 use Rattle.sbpl_headline.specs.Grid.{Square}
 use Rattle.sbpl_headline.specs.Map.{Map}
 
 -- a line of a batch
-abbrev pub line_of : Given → Line
+abbrev pub line_of : Given → ChangeLine
 line_of (inl w) = Cell w.x w.y w.cost
 line_of (inr p) = Start p
 
 -- the lines of batches
-abbrev pub lines_of : List (List Given) → List (List Line)
+abbrev pub lines_of : List (List Given) → List (List ChangeLine)
 lines_of told = map (λ batch. map line_of batch) told
 
 -- the map of a file, with the lines of the first k batches

@@ -68,17 +68,17 @@ IsPrimitiveText e prims text = Says
 -- ---- changes
 
 -- a line of a batch: the cost of a cell, or where the robot is
-pub data Line : Type 0 where
-  Cell : (x y cost : ℕ) → Line
-  Start : Place → Line
+pub data ChangeLine : Type 0 where
+  Cell : (x y cost : ℕ) → ChangeLine
+  Start : Place → ChangeLine
 
-abbrev pub line_words : Line → List Said
+abbrev pub line_words : ChangeLine → List Said
 line_words (Cell x y cost) = word (codes "cell") ∷ number (pos x) ∷ number (pos y) ∷ number (pos cost) ∷ []
 line_words (Start p) = word (codes "start") ∷ number (pos p.x) ∷ number (pos p.y) ∷ number (pos p.t) ∷ []
 
 -- The words of the lines that have some, between spaces and tabs, are those of the batches, with `replan` after each. Lines end at line
 -- feeds, and one carriage return before a line feed is dropped (std's `lines`).
-abbrev pub IsChangeText : List (List Line) → List ℕ → Type 0
+abbrev pub IsChangeText : List (List ChangeLine) → List ℕ → Type 0
 IsChangeText batches text = AllZip (AllZip Means)
     (flat_map (λ b. map line_words b ++ (word (codes "replan") ∷ []) ∷ []) batches)
     (filter (λ f. nat_lt 0 (length f)) (map (between is_parting) (lines text)))

@@ -6,7 +6,7 @@ use Rattle.sbpl_promises.specs.sbpl_cfg.Environment.{Environment, IsPlaceOf}
 use Rattle.sbpl_promises.specs.sbpl_cfg.declared.pose.Place.{Place}
 use Rattle.sbpl_promises.specs.sbpl_desk.Desk.{DeskState, Told}
 use Rattle.sbpl_promises.specs.sbpl_mprim.declared.prim.Primitive.{Primitive}
-use Rattle.sbpl_headline.specs.Files.{IsChangeText, IsEnvironmentText, IsPrimitiveText, Line}
+use Rattle.sbpl_headline.specs.Files.{IsChangeText, IsEnvironmentText, IsPrimitiveText, ChangeLine}
 use Rattle.sbpl_headline.specs.Grid as grid
 use Rattle.sbpl_headline.specs.Map.{Map}
 use Rattle.sbpl_headline.specs.Motion.{Moves, Starts}
@@ -22,7 +22,7 @@ Read held name P = (text : List ℕ) × IfSome (held name) (λ bytes. text ≡ b
 -- marked as spent only with its count of expansions, which is the budget, or the run's count is 2 ^ 30. Their report was written. (That
 -- the counts are those of a search is said elsewhere, of the records that are reported: IsSearched.)
 pub record ArePlanned {P : Type 0} (Moves : Map → P → Step P → ℕ → Type 0) (Starts : Map → P → Type 0) (words : P → List (List ℕ)) (goal : P) (asked : Asked) (first : Map) (before after : DeskState) : Type 0 where
-  pub batches : List (List Line)
+  pub batches : List (List ChangeLine)
   pub changes : MatchOption asked.changes (batches ≡ []) (λ name. Read before.held name (IsChangeText batches))
   pub plans : List (Plan P)
   pub count : length plans ≡ suc (length batches)

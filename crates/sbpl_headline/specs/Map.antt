@@ -1,16 +1,16 @@
 -- The map as it then is, in plain words.
 use Rattle.std.specs.Prelude.{◌≡◌, ◌==◌, ◌&&◌, if◌then◌else◌, ℕ, ℤ, pos, ◌+◌, ◌*◌, ◌<◌, List, [], ◌∷◌, Some, slice_get}
 use Rattle.std.specs.List.{flat_map, last_or}
-use Rattle.sbpl_headline.specs.Files.{Line, Cell, Start}
+use Rattle.sbpl_headline.specs.Files.{ChangeLine, Cell, Start}
 
 -- its size, the costs in the file row by row, and the lines of the batches so far
 pub record Map : Type 0 where
   pub width : ℕ
   pub height : ℕ
   pub cells : List ℕ
-  pub changed : List Line
+  pub changed : List ChangeLine
 
-abbrev pub cost_in : (x y : ℕ) → Line → List ℕ
+abbrev pub cost_in : (x y : ℕ) → ChangeLine → List ℕ
 cost_in x y (Cell u v cost) = if (u == x) && (v == y) then cost ∷ [] else []
 cost_in x y (Start p) = []
 

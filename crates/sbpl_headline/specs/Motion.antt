@@ -6,7 +6,7 @@ use Rattle.sbpl_promises.specs.sbpl_cfg.declared.pose.Place.{Place}
 use Rattle.sbpl_promises.specs.sbpl_mprim.declared.prim.Primitive.{Primitive}
 use Rattle.sbpl_promises.specs.sbpl_sweep.Sweep.{IsCentre, IsSwept}
 use Rattle.sbpl_headline.specs.Cost.{cost_of}
-use Rattle.sbpl_headline.specs.Files.{Line, Cell, Start}
+use Rattle.sbpl_headline.specs.Files.{ChangeLine, Cell, Start}
 use Rattle.sbpl_headline.specs.Map.{Costs, IsBelow, Map}
 use Rattle.sbpl_headline.specs.Path.{Step}
 
@@ -35,7 +35,7 @@ pub record Moves (e : Environment) (prims : List Primitive) (radius : ℕ) (m : 
   pub most : (c : ℕ) → Pays e m s p c → c ≤ greatest
   pub product : cost ≡ cost_of e p * (greatest + 1)
 
-abbrev pub place_in : Line → List Place
+abbrev pub place_in : ChangeLine → List Place
 place_in (Cell u v cost) = []
 place_in (Start p) = p ∷ []
 

@@ -2,6 +2,6 @@
 //! promises shows it.
 #![tactic(auto)]
 
-mod law;
+mod laws;
 
-pub use law::promises_show_the_headline;
+pub use laws::promises_show_the_headline;

@@ -72,7 +72,8 @@ fn weigh(walks: &Walks, distances: &mut Vec<u64>)
     requires size { length distances.old.items ≡ cell_count walks.now.board }
     requires few { length distances.old.items ≤ 2 ^ 23 }
     ensures size { length distances.new.items ≡ length distances.old.items }
-    ensures weights { (a : ℕ) → a < length distances.old.items → slice_index distances.new.items a ≡ g_of walks.now.labels a }
+    ensures weights { (a : ℕ) → a < length distances.old.items
+        → slice_index distances.new.items a ≡ g_of walks.now.labels a }
 {
     for cell in 0..distances.len() as u32 {
         distances[cell as usize] = walks.weight(cell);

@@ -1,6 +1,7 @@
 //! The cells of a map as a graph, for a search backwards.
 
-ghost use Rattle.std.specs.Prelude.{◌≡◌, ◌+◌, ◌*◌, ◌/◌, ◌%◌, ◌<◌, ◌≤◌, ◌↔◌, ◌+ℤ◌, pos, length, slice_index, slice_set};
+ghost use Rattle.std.specs.Prelude.{◌≡◌, ◌+◌, ◌*◌, ◌/◌, ◌%◌, ◌<◌, ◌≤◌, ◌↔◌, ◌+ℤ◌, pos};
+ghost use Rattle.std.specs.Prelude.{length, slice_index, slice_set};
 ghost use Rattle.std.specs.Prelude.{IsTrue, IfOk, IfSome, IfNone, [], vec_capacity};
 ghost use Rattle.sbpl_cost.specs.PrimitiveCost.{most_cost};
 ghost use Rattle.sbpl_cost.specs.States.{IsOff};

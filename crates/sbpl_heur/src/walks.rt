@@ -1,6 +1,7 @@
 //! The least weights of walks of cells to a goal.
 
-ghost use Rattle.std.specs.Prelude.{◌≡◌, ℕ, ◌+◌, ◌*◌, ◌^◌, ◌<◌, ◌≤◌, IfOk, [], length, slice_index, slice_set, vec_capacity};
+ghost use Rattle.std.specs.Prelude.{◌≡◌, ℕ, ◌+◌, ◌*◌, ◌^◌, ◌<◌, ◌≤◌, IfOk, [], length, slice_index};
+ghost use Rattle.std.specs.Prelude.{slice_set, vec_capacity};
 ghost use Rattle.sbpl_serial.specs.sbpl_graph.Network.{Network};
 ghost use Rattle.sbpl_serial.specs.sbpl_labels.Marks.{states_of, g_of};
 ghost use Rattle.sbpl_serial.specs.sbpl_search.Ready.{AreUsable};
@@ -68,7 +69,8 @@ fn make_room(search: &mut Serial<Repair>, budget: &mut Budget, states: u32)
     requires one_plan { IsOnePlan budget.old }
     ensures one_plan { IsOnePlan budget.new }
     ensures room { budget.new.run + 3 * states ≤ 2 ^ 30 }
-    ensures usable { (n : Network) → AreUsable n search.old.labels budget.old.run → AreUsable n search.new.labels budget.new.run }
+    ensures usable { (n : Network) → AreUsable n search.old.labels budget.old.run
+        → AreUsable n search.new.labels budget.new.run }
     ensures start { search.new.labels.start ≡ search.old.labels.start }
     ensures goal { search.new.goal ≡ search.old.goal }
 {
@@ -118,7 +120,8 @@ impl Walks {
         requires same_size { length costs.now ≡ cell_count self.old.board }
         requires room { length hops.now ≤ self.old.board.room }
         requires board { IsBoard (record { env = env.now; costs = costs.now; hops = hops.now; room = self.old.board.room }) }
-        ensures board { self.new.board ≡ record { env = env.now; costs = costs.now; hops = hops.now; room = self.old.board.room } }
+        ensures board { self.new.board
+            ≡ record { env = env.now; costs = costs.now; hops = hops.now; room = self.old.board.room } }
         ensures start { self.new.labels.start ≡ self.old.labels.start }
         ensures least { AreLeast self.new.board.env (map_of self.new.board) self.new.board.hops self.new.labels.start
             (g_of self.new.labels) }
@@ -137,7 +140,8 @@ impl Walks {
         requires same_size { length costs.now ≡ cell_count self.old.board }
         requires room { length hops.now ≤ self.old.board.room }
         requires board { IsBoard (record { env = env.now; costs = costs.now; hops = hops.now; room = self.old.board.room }) }
-        ensures board { self.new.board ≡ record { env = env.now; costs = costs.now; hops = hops.now; room = self.old.board.room } }
+        ensures board { self.new.board
+            ≡ record { env = env.now; costs = costs.now; hops = hops.now; room = self.old.board.room } }
         ensures start { self.new.labels.start ≡ self.old.labels.start }
     {
         self.cells.renew(env, costs, hops);

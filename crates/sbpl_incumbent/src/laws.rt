@@ -1,6 +1,7 @@
 //! What the rule of the board says of its readers.
 
-ghost use Rattle.std.specs.Prelude.{◌≡◌, ℕ, ◌<◌, ◌≤◌, [], ◌∷◌, ◌++◌, List, Option, Some, IfSome, length};
+ghost use Rattle.std.specs.Prelude.{◌≡◌, ℕ, ◌<◌, ◌≤◌, [], ◌∷◌, ◌++◌, List, Option, Some, IfSome};
+ghost use Rattle.std.specs.Prelude.{length};
 ghost use Rattle.sbpl_incumbent.specs.Entries.{IsHistory, found, newest};
 ghost use Rattle.sbpl_incumbent.specs.Kept.{IsKept, IsPublisher, IsReader};
 ghost use Rattle.sbpl_incumbent.specs.declared.entry.Entry.{Entry};
@@ -10,7 +11,8 @@ ghost use Rattle.sbpl_incumbent.specs.declared.known.Known.{Known};
 /// published. And the entry that is published last is the newest. This is a law: it does nothing.
 pub fn told_readers_get_the_newest()
     ensures newest { (published : List Entry) (answer : Option Entry) → IfSome answer (λ entry. 0 < entry.number)
-        → length published ≤ (found answer).number → IsHistory published (found answer ∷ []) → answer ≡ newest published }
+        → length published ≤ (found answer).number → IsHistory published (found answer ∷ [])
+        → answer ≡ newest published }
     ensures last { (published : List Entry) (entry : Entry) → newest (published ++ entry ∷ []) ≡ Some entry }
 {}
 

@@ -10,7 +10,7 @@ use Rattle.sbpl_job.specs.declared.job.JobFault.{JobFault}
 use Rattle.sbpl_job.specs.declared.job.JobFault.TheVariants as fault
 use Rattle.sbpl_job.specs.declared.words.Command.{Command}
 use Rattle.sbpl_job.specs.declared.words.Command.TheVariants as command
-use Rattle.sbpl_job.specs.Words.{Names, Parts, are_fit, parts_in}
+use Rattle.sbpl_job.specs.Words.{Names, WordParts, are_fit, parts_in}
 use Rattle.sbpl_job.specs.Jobs.{Settings, check_in, demo_in, job_by, job_with, nav_check_in, nav_in, plan_in, sweep_in}
 use Rattle.sbpl_job.specs.Lines.{plain_id}
 use Rattle.sbpl_job.specs.Found.{FindsParts, IsFound, job_found, job_from, set_in, word_at}
@@ -76,7 +76,7 @@ by_words command.NavCheck value set (a ∷ (b ∷ [])) at =
 by_words command.NavCheck value set (a ∷ (b ∷ (d ∷ more))) at = absurd (too_many d (at 2))
 
 -- the job of what was found is that of the parts
-found_is : (c : Command) (m : ArgMatches) (p : Parts) → IsFound c (found_of m) p → job_found c m ≡ job_by c p
+found_is : (c : Command) (m : ArgMatches) (p : WordParts) → IsFound c (found_of m) p → job_found c m ≡ job_by c p
 found_is c m p found =
     by_words c (first_value (found_of m)) (set_in m) p.plain found.plain
     ∙ ap (job_with c p.plain) (fun_ext found.settings)

@@ -17,7 +17,7 @@ use Rattle.std.proofs.lemmas.Slice.Eq.{bytes_eq-Decides}
 use Rattle.sbpl_job.specs.declared.words.Command.{Command}
 use Rattle.sbpl_job.specs.declared.words.Setting.{Setting}
 use Rattle.sbpl_job.specs.declared.words.Setting.TheVariants as setting
-use Rattle.sbpl_job.specs.Words.{Given, Parts, is_equals, is_joined, is_plain_word, no_parts, once, parts_after}
+use Rattle.sbpl_job.specs.Words.{Given, WordParts, is_equals, is_joined, is_plain_word, no_parts, once, parts_after}
 use Rattle.sbpl_job.specs.Words.{parts_in, parts_of, setting_named, setting_of, spaced, spaced_word, stands_once}
 use Rattle.sbpl_job.specs.Words.{takes, with_given, with_plain}
 use Rattle.sbpl_job.specs.Forms.{Form, Plain, Apart, Joined, name_of, form_words, plain_of, given_of, IsFit, Differ}
@@ -223,7 +223,7 @@ spaced_form (Plain x) = x ∷ []
 spaced_form (Apart s value) = name_of s ∷ (value ∷ [])
 spaced_form (Joined s value) = name_of s ∷ (value ∷ [])
 
-abbrev parts_by : List Form → Parts
+abbrev parts_by : List Form → WordParts
 parts_by fs = record { plain = flat_map plain_of fs; given = flat_map given_of fs }
 
 spaced_forms : (fs : List Form) (c : Command) → All (IsFit c) fs
@@ -242,7 +242,7 @@ spaced_forms (Joined s value ∷ fs) c fit =
     ap₂ (λ (a b : List Word). a ++ b) (spaced_joined c s value here.0 here.1)
     (spaced_forms fs c (All-tail (IsFit c) (Joined s value) fs fit))
 
-parts_name : (c : Command) (s : Setting) (value : Word) (xs : List Word) (p : Parts) → takes c s ≡ true
+parts_name : (c : Command) (s : Setting) (value : Word) (xs : List Word) (p : WordParts) → takes c s ≡ true
     → is_plain_word value ≡ true → parts_after c None xs ≡ Some p
     → parts_after c None (name_of s ∷ (value ∷ xs)) ≡ Some (with_given s value p)
 parts_name c s value xs p takes_it plain more =
@@ -250,7 +250,7 @@ parts_name c s value xs p takes_it plain more =
     ∙ ap (λ b. if b then option_map (with_given s value) (parts_after c None xs) else None) plain
     ∙ ap (option_map (with_given s value)) more
 
-parts_plain : (c : Command) (x : Word) (xs : List Word) (p : Parts) → is_plain_word x ≡ true
+parts_plain : (c : Command) (x : Word) (xs : List Word) (p : WordParts) → is_plain_word x ≡ true
     → parts_after c None xs ≡ Some p → parts_after c None (x ∷ xs) ≡ Some (with_plain x p)
 parts_plain c x xs p plain more =
     ap (λ b. if b then option_map (with_plain x) (parts_after c None xs)
@@ -395,27 +395,27 @@ pairs_forms (Joined s value ∷ fs) c fit single =
 
 -- ---- from parts to forms
 
-record HasForms (c : Command) (words : List Word) (p : Parts) : Type 0 where
+record HasForms (c : Command) (words : List Word) (p : WordParts) : Type 0 where
   forms : List Form
   fit : All (IsFit c) forms
   spelled : words ≡ flat_map form_words forms
   parts : p ≡ parts_by forms
 
 -- words whose first is the value that a setting awaits
-record HasValue (c : Command) (s : Setting) (words : List Word) (p : Parts) : Type 0 where
+record HasValue (c : Command) (s : Setting) (words : List Word) (p : WordParts) : Type 0 where
   value : Word
   rest : List Word
-  left : Parts
+  left : WordParts
   words_are : words ≡ value ∷ rest
   plain : is_plain_word value ≡ true
   forms : HasForms c rest left
   parts : p ≡ with_given s value left
 
-abbrev Continues : Command → Option Setting → List Word → Parts → Type 0
+abbrev Continues : Command → Option Setting → List Word → WordParts → Type 0
 Continues c None words p = HasForms c words p
 Continues c (Some s) words p = HasValue c s words p
 
-with_form : (c : Command) (f : Form) (words rest : List Word) (p q : Parts) → IsFit c f → words ≡ form_words f ++ rest
+with_form : (c : Command) (f : Form) (words rest : List Word) (p q : WordParts) → IsFit c f → words ≡ form_words f ++ rest
     → (h : HasForms c rest q) → p ≡ parts_by (f ∷ h.forms) → HasForms c words p
 with_form c f words rest p q fit spelled h parts = record {
   forms = f ∷ h.forms;
@@ -425,28 +425,28 @@ with_form c f words rest p q fit spelled h parts = record {
 }
 
 -- the value of a setting is the next word, and is plain
-value_next : (c : Command) (s : Setting) (x : Word) (xs : List Word) (p : Parts)
+value_next : (c : Command) (s : Setting) (x : Word) (xs : List Word) (p : WordParts)
     → parts_after c (Some s) (x ∷ xs) ≡ Some p
-    → (is_plain_word x ≡ true) × ((q : Parts) × (parts_after c None xs ≡ Some q) × (with_given s x q ≡ p))
+    → (is_plain_word x ≡ true) × ((q : WordParts) × (parts_after c None xs ≡ Some q) × (with_given s x q ≡ p))
 value_next c s x xs p h =
     let both = chosen (is_plain_word x) (option_map (with_given s x) (parts_after c None xs)) p h in
     (both.0, mapped (with_given s x) (parts_after c None xs) p both.1)
 
 -- a word that is no value is the name of a setting, which awaits its value
-bound_by : (c : Command) (xs : List Word) (o : Option Setting) (p : Parts)
+bound_by : (c : Command) (xs : List Word) (o : Option Setting) (p : WordParts)
     → option_and_then (λ s. parts_after c (Some s) xs) o ≡ Some p
     → (s : Setting) × (o ≡ Some s) × (parts_after c (Some s) xs ≡ Some p)
 bound_by c xs (Some s) p h = (s, refl, h)
 bound_by c xs None p h = absurd (none-some p h)
 
-abbrev awaits : (c : Command) (x : Word) (xs : List Word) → Bool → Option Parts
+abbrev awaits : (c : Command) (x : Word) (xs : List Word) → Bool → Option WordParts
 awaits c x xs b =
     if b then option_map (with_plain x) (parts_after c None xs)
     else option_and_then (λ s. parts_after c (Some s) xs) (setting_of c x)
 
 -- a word that is no name with its value
-one_word : (c : Command) (x : Word) (words : List Word) (p : Parts) → parts_after c None (x ∷ spaced c words) ≡ Some p
-    → ((a : Option Setting) (q : Parts) → parts_after c a (spaced c words) ≡ Some q → Continues c a words q)
+one_word : (c : Command) (x : Word) (words : List Word) (p : WordParts) → parts_after c None (x ∷ spaced c words) ≡ Some p
+    → ((a : Option Setting) (q : WordParts) → parts_after c a (spaced c words) ≡ Some q → Continues c a words q)
     → HasForms c (x ∷ words) p
 one_word c x words p h more = elim (cases_Bool (is_plain_word x)) [
   | inl plain ↦
@@ -467,9 +467,9 @@ one_word c x words p h more = elim (cases_Bool (is_plain_word x)) [
 ]
 
 -- a name with its value
-both_in_one : (c : Command) (x : Word) (words : List Word) (p : Parts) (s : Setting) → IsSplit c x s
+both_in_one : (c : Command) (x : Word) (words : List Word) (p : WordParts) (s : Setting) → IsSplit c x s
     → parts_after c None (before_first is_equals x ∷ (after_first is_equals x ∷ spaced c words)) ≡ Some p
-    → ((q : Parts) → parts_after c None (spaced c words) ≡ Some q → HasForms c words q) → HasForms c (x ∷ words) p
+    → ((q : WordParts) → parts_after c None (spaced c words) ≡ Some q → HasForms c words q) → HasForms c (x ∷ words) p
 both_in_one c x words p s cut h more =
     let value = after_first is_equals x in
     let named_so : parts_after c None (name_of s ∷ (value ∷ spaced c words)) ≡ Some p =
@@ -485,7 +485,7 @@ both_in_one c x words p s cut h more =
     with_form c (Joined s value) (x ∷ words) words p q (cut.takes_it, cut.plain) (ap (λ (y : Word). y ∷ words) spelled)
     m (sym it.1.2 ∙ ap (with_given s value) m.parts)
 
-continues : (words : List Word) (c : Command) (a : Option Setting) (p : Parts)
+continues : (words : List Word) (c : Command) (a : Option Setting) (p : WordParts)
     → parts_after c a (spaced c words) ≡ Some p → Continues c a words p
 continues [] c None p h =
     record { forms = []; fit = All-nil (IsFit c); spelled = refl; parts = sym (same_Some no_parts p h) }
@@ -524,7 +524,7 @@ continues (x ∷ words) c (Some s) p h = elim (cases_Bool (is_joined c x)) [
 
 -- ---- both
 
-parts_to : (c : Command) (words : List Word) (p : Parts) → parts_of c words ≡ Some p → ArePartsOf c words p
+parts_to : (c : Command) (words : List Word) (p : WordParts) → parts_of c words ≡ Some p → ArePartsOf c words p
 parts_to c words p h =
     let both = chosen (once c (spaced c words)) (parts_after c None (spaced c words)) p h in
     let it : HasForms c words p = continues words c None p both.1 in
@@ -535,23 +535,23 @@ parts_to c words p h =
       forms = it.forms;
       fit = it.fit;
       spelled = it.spelled;
-      plain = ap (λ (q : Parts). q.plain) it.parts;
-      given = ap (λ (q : Parts). q.given) it.parts;
-      single = subst (λ (gs : List Given). AllPairs Differ gs) (sym (ap (λ (q : Parts). q.given) it.parts)) pairs;
+      plain = ap (λ (q : WordParts). q.plain) it.parts;
+      given = ap (λ (q : WordParts). q.given) it.parts;
+      single = subst (λ (gs : List Given). AllPairs Differ gs) (sym (ap (λ (q : WordParts). q.given) it.parts)) pairs;
     }
 
-parts_from : (c : Command) (words : List Word) (p : Parts) → ArePartsOf c words p → parts_of c words ≡ Some p
+parts_from : (c : Command) (words : List Word) (p : WordParts) → ArePartsOf c words p → parts_of c words ≡ Some p
 parts_from c words p it =
     let same : spaced c words ≡ flat_map spaced_form it.forms =
     ap (spaced c) it.spelled ∙ spaced_forms it.forms c it.fit in
     let pairs = subst (λ (gs : List Given). AllPairs Differ gs) it.given it.single in
     let plain_and_given : (a b : List Word) (g h : List Given) → a ≡ b → g ≡ h
-    → ◌≡◌ {A = Parts} (record { plain = a; given = g }) (record { plain = b; given = h }) =
+    → ◌≡◌ {A = WordParts} (record { plain = a; given = g }) (record { plain = b; given = h }) =
     λ a b g h e f. ap₂ (λ (x : List Word) (y : List Given). record { plain = x; given = y }) e f in
     ap (parts_in c) same ∙ ap (λ b. if b then parts_after c None (flat_map spaced_form it.forms) else None)
     (once_forms it.forms c it.fit pairs)
     ∙ parts_forms it.forms c it.fit
-    ∙ ap (λ (q : Parts). Some q)
+    ∙ ap (λ (q : WordParts). Some q)
     (sym (plain_and_given p.plain (flat_map plain_of it.forms) p.given (flat_map given_of it.forms) it.plain it.given))
 
 pub parts_are_of_forms : PartsAreOfForms

@@ -27,7 +27,7 @@ use Rattle.clap.proofs.SimpleLemmas.{is_nil}
 use Rattle.sbpl_job.specs.declared.words.Command.{Command}
 use Rattle.sbpl_job.specs.declared.words.Command.TheVariants as command
 use Rattle.sbpl_job.specs.declared.words.Setting.{Setting}
-use Rattle.sbpl_job.specs.Words.{Parts, are_fit, id_of, is_known, is_plain_word, once, parts_after, setting_of}
+use Rattle.sbpl_job.specs.Words.{WordParts, are_fit, id_of, is_known, is_plain_word, once, parts_after, setting_of}
 use Rattle.sbpl_job.specs.Words.{value_of, with_given, with_plain}
 use Rattle.sbpl_job.specs.Lines.{app, plain_id, rules}
 use Rattle.sbpl_job.specs.Found.{FindsParts, IsFound, word_at}
@@ -44,25 +44,25 @@ lookup id [] = None
 lookup id (u ∷ us) = if bytes_eq u.0 id then Some u.1 else lookup id us
 
 -- the uses hold what the parts hold, where the plain words begin with number k
-pub record Agrees (c : Command) (k : ℕ) (parts : Option Parts) (us : Uses) : Type 0 where
-  pub p : Parts
+pub record Agrees (c : Command) (k : ℕ) (parts : Option WordParts) (us : Uses) : Type 0 where
+  pub p : WordParts
   pub parts_are : parts ≡ Some p
   pub settings : (s : Setting) → lookup (id_of s) us ≡ value_of s p.given
   pub plains : (j : ℕ) (id : Text) → plain_id c (k + j) ≡ Some id → lookup id us ≡ word_at p.plain j
   pub ends : (j : ℕ) → plain_id c (k + j) ≡ None → word_at p.plain j ≡ None
 
 -- a plain word stands where the command takes none
-abbrev pub IsLong : Command → ℕ → Parts → Type 0
+abbrev pub IsLong : Command → ℕ → WordParts → Type 0
 IsLong c k p = (j : ℕ) × (plain_id c (k + j) ≡ None) × (is_some (word_at p.plain j) ≡ true)
 
-abbrev pub Reads : Command → ℕ → Option Parts → Option Uses → Type 0
+abbrev pub Reads : Command → ℕ → Option WordParts → Option Uses → Type 0
 Reads c k parts (Some us) = Agrees c k parts us
-Reads c k parts None = (p : Parts) → parts ≡ Some p → IsLong c k p
+Reads c k parts None = (p : WordParts) → parts ≡ Some p → IsLong c k p
 
 no_parts_are : (c : Command) (k : ℕ) → Reads c k None None
 no_parts_are c k = λ p e. absurd (none_is p e)
   where
-    none_is : (p : Parts) → None ≡ Some p → ⊥
+    none_is : (p : WordParts) → None ≡ Some p → ⊥
     none_is p e = cc
 
 at_zero : (c : Command) (k : ℕ) (o : Option Text) → plain_id c k ≡ o → plain_id c (k + 0) ≡ o
@@ -85,7 +85,7 @@ meets : (id : Text) (u : Text × Text) (us : Uses) → bytes_eq u.0 id ≡ true 
 meets id u us same = ap (λ b. if b then Some u.1 else lookup id us) same
 
 -- plain word number k
-agrees_plain : (c : Command) (k : ℕ) (id x : Text) (parts : Option Parts) (us : Uses) → plain_id c k ≡ Some id
+agrees_plain : (c : Command) (k : ℕ) (id x : Text) (parts : Option WordParts) (us : Uses) → plain_id c k ≡ Some id
     → Agrees c (k + 1) parts us → Agrees c k (option_map (with_plain x) parts) ((id, x) ∷ us)
 agrees_plain c k id x parts us is so = record {
   p = with_plain x so.p;
@@ -110,7 +110,7 @@ agrees_plain c k id x parts us is so = record {
         some_is_none e = cc
     past (suc j) none = so.ends j (one_on c k j None none)
 
-agrees_setting : (c : Command) (k : ℕ) (s : Setting) (x : Text) (parts : Option Parts) (us : Uses) → Agrees c k parts us
+agrees_setting : (c : Command) (k : ℕ) (s : Setting) (x : Text) (parts : Option WordParts) (us : Uses) → Agrees c k parts us
     → Agrees c k (option_map (with_given s x) parts) ((id_of s, x) ∷ us)
 agrees_setting c k s x parts us so = record {
   p = with_given s x so.p;
@@ -121,44 +121,44 @@ agrees_setting c k s x parts us so = record {
   ends = so.ends;
 }
 
-long_plain : (c : Command) (k : ℕ) (x : Text) (parts : Option Parts)
-    → ((p : Parts) → parts ≡ Some p → IsLong c (k + 1) p) → (p : Parts)
+long_plain : (c : Command) (k : ℕ) (x : Text) (parts : Option WordParts)
+    → ((p : WordParts) → parts ≡ Some p → IsLong c (k + 1) p) → (p : WordParts)
     → option_map (with_plain x) parts ≡ Some p → IsLong c k p
 long_plain c k x (Some q) long p is = let at = long q refl in (
   suc at.0,
   one_back c k at.0 None at.1,
-  subst (λ (r : Parts). is_some (word_at r.plain (suc at.0)) ≡ true) (some_is is) at.2,
+  subst (λ (r : WordParts). is_some (word_at r.plain (suc at.0)) ≡ true) (some_is is) at.2,
 )
 long_plain c k x None long p is = absurd (none_is is)
   where
     none_is : None ≡ Some p → ⊥
     none_is e = cc
 
-long_here : (c : Command) (k : ℕ) (x : Text) (parts : Option Parts) → plain_id c k ≡ None → (p : Parts)
+long_here : (c : Command) (k : ℕ) (x : Text) (parts : Option WordParts) → plain_id c k ≡ None → (p : WordParts)
     → option_map (with_plain x) parts ≡ Some p → IsLong c k p
 long_here c k x (Some q) none p is =
-    (0, at_zero c k None none, subst (λ (r : Parts). is_some (word_at r.plain 0) ≡ true) (some_is is) refl)
+    (0, at_zero c k None none, subst (λ (r : WordParts). is_some (word_at r.plain 0) ≡ true) (some_is is) refl)
 long_here c k x None none p is = absurd (none_is is)
   where
     none_is : None ≡ Some p → ⊥
     none_is e = cc
 
-long_setting : (c : Command) (k : ℕ) (s : Setting) (x : Text) (parts : Option Parts)
-    → ((p : Parts) → parts ≡ Some p → IsLong c k p) → (p : Parts)
+long_setting : (c : Command) (k : ℕ) (s : Setting) (x : Text) (parts : Option WordParts)
+    → ((p : WordParts) → parts ≡ Some p → IsLong c k p) → (p : WordParts)
     → option_map (with_given s x) parts ≡ Some p → IsLong c k p
 long_setting c k s x (Some q) long p is =
-    let at = long q refl in (at.0, at.1, subst (λ (r : Parts). is_some (word_at r.plain at.0) ≡ true) (some_is is) at.2)
+    let at = long q refl in (at.0, at.1, subst (λ (r : WordParts). is_some (word_at r.plain at.0) ≡ true) (some_is is) at.2)
 long_setting c k s x None long p is = absurd (none_is is)
   where
     none_is : None ≡ Some p → ⊥
     none_is e = cc
 
-reads_plain : (c : Command) (k : ℕ) (id x : Text) (parts : Option Parts) (us : Option Uses) → plain_id c k ≡ Some id
+reads_plain : (c : Command) (k : ℕ) (id x : Text) (parts : Option WordParts) (us : Option Uses) → plain_id c k ≡ Some id
     → Reads c (k + 1) parts us → Reads c k (option_map (with_plain x) parts) (option_map (λ vs. (id, x) ∷ vs) us)
 reads_plain c k id x parts (Some us) is so = agrees_plain c k id x parts us is so
 reads_plain c k id x parts None is so = long_plain c k x parts so
 
-reads_setting : (c : Command) (k : ℕ) (s : Setting) (x : Text) (parts : Option Parts) (us : Option Uses)
+reads_setting : (c : Command) (k : ℕ) (s : Setting) (x : Text) (parts : Option WordParts) (us : Option Uses)
     → Reads c k parts us → Reads c k (option_map (with_given s x) parts) (option_map (λ vs. (id_of s, x) ∷ vs) us)
 reads_setting c k s x parts (Some us) so = agrees_setting c k s x parts us so
 reads_setting c k s x parts None so = long_setting c k s x parts so
@@ -184,14 +184,14 @@ reads (x ∷ xs) c k None = elim (cases_Bool (is_plain_word x)) [
   | inl plain ↦
       subst (Reads c k (parts_after c None (x ∷ xs)))
       (sym (ap (λ b. if b then after_plain c k x xs (plain_id c k) else after_name c k xs (setting_of c x)) plain))
-      (subst (λ (o : Option Parts). Reads c k o (after_plain c k x xs (plain_id c k)))
+      (subst (λ (o : Option WordParts). Reads c k o (after_plain c k x xs (plain_id c k)))
       (sym (ap (λ b. if b then option_map (with_plain x) (parts_after c None xs)
       else option_and_then (λ s. parts_after c (Some s) xs) (setting_of c x)) plain))
       (reads_place c k x xs (plain_id c k) refl (reads xs c (k + 1) None)))
   | inr other ↦
       subst (Reads c k (parts_after c None (x ∷ xs)))
       (sym (ap (λ b. if b then after_plain c k x xs (plain_id c k) else after_name c k xs (setting_of c x)) other))
-      (subst (λ (o : Option Parts). Reads c k o (after_name c k xs (setting_of c x)))
+      (subst (λ (o : Option WordParts). Reads c k o (after_name c k xs (setting_of c x)))
       (sym (ap (λ b. if b then option_map (with_plain x) (parts_after c None xs)
       else option_and_then (λ s. parts_after c (Some s) xs) (setting_of c x)) other))
       (by_name (setting_of c x) (λ s. reads xs c k (Some s))))
@@ -205,13 +205,13 @@ reads (x ∷ xs) c k (Some s) = elim (cases_Bool (is_plain_word x)) [
   | inl plain ↦
       subst (Reads c k (parts_after c (Some s) (x ∷ xs)))
       (sym (ap (λ b. if b then option_map (λ us. (id_of s, x) ∷ us) (uses c k None xs) else None) plain))
-      (subst (λ (o : Option Parts). Reads c k o (option_map (λ us. (id_of s, x) ∷ us) (uses c k None xs)))
+      (subst (λ (o : Option WordParts). Reads c k o (option_map (λ us. (id_of s, x) ∷ us) (uses c k None xs)))
       (sym (ap (λ b. if b then option_map (with_given s x) (parts_after c None xs) else None) plain))
       (reads_setting c k s x (parts_after c None xs) (uses c k None xs) (reads xs c k None)))
   | inr other ↦
       subst (Reads c k (parts_after c (Some s) (x ∷ xs)))
       (sym (ap (λ b. if b then option_map (λ us. (id_of s, x) ∷ us) (uses c k None xs) else None) other))
-      (subst (λ (o : Option Parts). Reads c k o None) (sym
+      (subst (λ (o : Option WordParts). Reads c k o None) (sym
       (ap (λ b. if b then option_map (with_given s x) (parts_after c None xs) else None) other)) (no_parts_are c k))
 ]
 
@@ -387,13 +387,13 @@ wrong_count command.NavCheck (a ∷ []) set wrong = refl
 wrong_count command.NavCheck (a ∷ (b ∷ [])) set wrong = absurd (wrong refl)
 wrong_count command.NavCheck (a ∷ (b ∷ (d ∷ more))) set wrong = refl
 
-pub short_is_none : (c : Command) (k : ℕ) (id : Text) (p : Parts) → plain_id c k ≡ Some id
+pub short_is_none : (c : Command) (k : ℕ) (id : Text) (p : WordParts) → plain_id c k ≡ Some id
     → word_at p.plain k ≡ None → job_by c p ≡ None
 short_is_none c k id p is none =
     wrong_count c p.plain (λ s. value_of s p.given)
     (λ same. let less = has_place c k id is in let few = word_none p.plain k none in omega arith)
 
-long_is_none : (c : Command) (p : Parts) → IsLong c 0 p → job_by c p ≡ None
+long_is_none : (c : Command) (p : WordParts) → IsLong c 0 p → job_by c p ≡ None
 long_is_none c p long =
     wrong_count c p.plain (λ s. value_of s p.given)
     (λ same. let most = has_no_place c (0 + long.0) long.1 in let less = word_some p.plain long.0 long.2 in omega arith)
@@ -489,7 +489,7 @@ is_free_line command.Nav = refl
 is_free_line command.NavCheck = refl
 
 found_by : (c : Command) (xs : List Text) (f : Found) (us : Uses) → IsTaken c xs us → rows_of f ≡ matches_of (app c) xs
-    → Agrees c 0 (parts_after c None xs) us → (p : Parts) × (parts_after c None xs ≡ Some p) × IsFound c f p
+    → Agrees c 0 (parts_after c None xs) us → (p : WordParts) × (parts_after c None xs ≡ Some p) × IsFound c f p
 found_by c xs f us is_taken rows so = (
   so.p,
   so.parts_are,
@@ -508,18 +508,18 @@ found_by c xs f us is_taken rows so = (
 
 finds_by : (c : Command) (xs : List Text) (f : Found) (us : Option Uses) → Takes c xs us → fault_of (app c) xs ≡ []
     → rows_of f ≡ matches_of (app c) xs → Reads c 0 (parts_after c None xs) us
-    → (p : Parts) × (parts_after c None xs ≡ Some p) × IsFound c f p
+    → (p : WordParts) × (parts_after c None xs ≡ Some p) × IsFound c f p
 finds_by c xs f (Some us) is_taken none rows so = found_by c xs f us is_taken rows so
 finds_by c xs f None refused none rows so = absurd (refused none)
 
 -- clap's matches hold the parts
 pub finds_parts : (c : Command) (xs : List Text) (f : Found) → list_all (is_known c) xs ≡ true → once c xs ≡ true
     → fault_of (app c) xs ≡ [] → rows_of f ≡ matches_of (app c) xs
-    → (p : Parts) × (parts_after c None xs ≡ Some p) × IsFound c f p
+    → (p : WordParts) × (parts_after c None xs ≡ Some p) × IsFound c f p
 finds_parts c xs f known single none rows =
     finds_by c xs f (uses c 0 None xs) (takes_words c xs known single) none rows (reads xs c 0 None)
 
-no_job : (c : Command) (parts : Option Parts) → ((p : Parts) → parts ≡ Some p → job_by c p ≡ None)
+no_job : (c : Command) (parts : Option WordParts) → ((p : WordParts) → parts ≡ Some p → job_by c p ≡ None)
     → option_and_then (job_by c) parts ≡ None
 no_job c (Some p) none = none p refl
 no_job c None none = refl
@@ -545,7 +545,7 @@ refused_parts c xs known single some =
 
 pub found_in : (c : Command) (xs : List Text) (a : App) (m : ArgMatches) → a ≡ app c → are_fit c xs ≡ true
     → (is_simple_and_free a ≡ true → fault_of a xs ≡ []) → HasMatchesOf a xs m
-    → (p : Parts) × (parts_after c None xs ≡ Some p) × IsFound c (found_of m) p
+    → (p : WordParts) × (parts_after c None xs ≡ Some p) × IsFound c (found_of m) p
 found_in c xs a m is fit none matches =
     let parts = fit_parts c xs fit in
     let no_fault : fault_of (app c) xs ≡ [] =

@@ -6,7 +6,7 @@ use Rattle.std.specs.Prelude.{option_and_then}
 use Rattle.std.specs.List.{after_first, before_first, list_all, position_or_len}
 use Rattle.std.proofs.lemmas.List.{drop_all}
 use Rattle.sbpl_job.specs.declared.words.Command.{Command}
-use Rattle.sbpl_job.specs.Words.{Parts, are_fit, is_equals, is_known, is_plain_word, joined_word, once, parts_after}
+use Rattle.sbpl_job.specs.Words.{WordParts, are_fit, is_equals, is_known, is_plain_word, joined_word, once, parts_after}
 use Rattle.sbpl_job.specs.Words.{parts_in, setting_of, stands_once, with_given, with_plain}
 use Rattle.sbpl_job.specs.declared.words.Setting.{Setting}
 use Rattle.sbpl_job.specs.Jobs.{job_by}
@@ -52,11 +52,11 @@ unknown_is_none (word ∷ words) c (Some s) unknown =
           ap (λ b. if b then option_map (with_given s word) (parts_after c None words) else None)
           (or_parts (is_plain_word word) (is_some (setting_of c word)) here).0
       | inr later ↦
-          ap (λ (o : Option Parts). if is_plain_word word then option_map (with_given s word) o else None)
+          ap (λ (o : Option WordParts). if is_plain_word word then option_map (with_given s word) o else None)
           (unknown_is_none words c None later) ∙ either (is_plain_word word)
     ]
   where
-    either : (b : Bool) → ◌≡◌ {A = Option Parts} (if b then None else None) None
+    either : (b : Bool) → ◌≡◌ {A = Option WordParts} (if b then None else None) None
     either true = refl
     either false = refl
 unknown_is_none (word ∷ words) c None unknown =
@@ -65,12 +65,12 @@ unknown_is_none (word ∷ words) c None unknown =
           ap (λ b. if b then option_map (with_plain word) (parts_after c None words) else option_and_then (λ s.
           parts_after c (Some s) words) (setting_of c word)) both.0 ∙ no_setting c words (setting_of c word) both.1
       | inr later ↦
-          ap₂ (λ (o q : Option Parts). if is_plain_word word then option_map (with_plain word) o else q)
+          ap₂ (λ (o q : Option WordParts). if is_plain_word word then option_map (with_plain word) o else q)
           (unknown_is_none words c None later) (none_after c words (λ s. unknown_is_none words c (Some s) later)
           (setting_of c word)) ∙ either (is_plain_word word)
     ]
   where
-    either : (b : Bool) → ◌≡◌ {A = Option Parts} (if b then None else None) None
+    either : (b : Bool) → ◌≡◌ {A = Option WordParts} (if b then None else None) None
     either true = refl
     either false = refl
 

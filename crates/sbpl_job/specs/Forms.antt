@@ -3,7 +3,7 @@ use Rattle.std.specs.Prelude.{◌≡◌, ◌≢◌, ◌↔◌, ℕ, true, List, 
 use Rattle.std.specs.List.{All, AllPairs, flat_map}
 use Rattle.sbpl_job.specs.declared.words.Command.{Command}
 use Rattle.sbpl_job.specs.declared.words.Setting.{Setting}
-use Rattle.sbpl_job.specs.Words.{Given, Parts, id_of, is_plain_word, takes, parts_of}
+use Rattle.sbpl_job.specs.Words.{Given, WordParts, id_of, is_plain_word, takes, parts_of}
 
 -- a plain word; a setting's name, with its value in the next word; or a setting's name, '=' and its value in one word
 pub data Form : Type 0 where
@@ -44,7 +44,7 @@ abbrev pub Differ : Given → Given → Type 0
 Differ g h = g.setting ≢ h.setting
 
 -- words are the words of some fit forms in turn, which give these parts in order and no setting twice
-pub record ArePartsOf (c : Command) (words : List (List ℕ)) (p : Parts) : Type 0 where
+pub record ArePartsOf (c : Command) (words : List (List ℕ)) (p : WordParts) : Type 0 where
   pub forms : List Form
   pub fit : All (IsFit c) forms
   pub spelled : words ≡ flat_map form_words forms
@@ -54,8 +54,8 @@ pub record ArePartsOf (c : Command) (words : List (List ℕ)) (p : Parts) : Type
 
 -- the parts of words are what their forms give
 abbrev pub PartsAreOfForms : Type 0
-PartsAreOfForms = (c : Command) (words : List (List ℕ)) (p : Parts) → (parts_of c words ≡ Some p) ↔ ArePartsOf c words p
+PartsAreOfForms = (c : Command) (words : List (List ℕ)) (p : WordParts) → (parts_of c words ≡ Some p) ↔ ArePartsOf c words p
 
 -- words have no parts exactly where they are not the words of such forms
 abbrev pub NoPartsWithoutForms : Type 0
-NoPartsWithoutForms = (c : Command) (words : List (List ℕ)) → (parts_of c words ≡ None) ↔ ((p : Parts) → ArePartsOf c words p → ⊥)
+NoPartsWithoutForms = (c : Command) (words : List (List ℕ)) → (parts_of c words ≡ None) ↔ ((p : WordParts) → ArePartsOf c words p → ⊥)

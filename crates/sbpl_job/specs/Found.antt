@@ -9,7 +9,7 @@ use Rattle.sbpl_job.specs.declared.job.Job.{Job}
 use Rattle.sbpl_job.specs.declared.words.Command.{Command}
 use Rattle.sbpl_job.specs.declared.words.Command.TheVariants as command
 use Rattle.sbpl_job.specs.declared.words.Setting.{Setting}
-use Rattle.sbpl_job.specs.Words.{Parts, id_of, parts_after, value_of}
+use Rattle.sbpl_job.specs.Words.{WordParts, id_of, parts_after, value_of}
 use Rattle.sbpl_job.specs.Lines.{plain_id}
 use Rattle.sbpl_job.specs.Jobs.{Settings, check_in, demo_in, job_by, nav_check_in, nav_in, plan_in, sweep_in}
 
@@ -24,13 +24,13 @@ word_at (word ∷ words) zero = Some word
 word_at (word ∷ words) (suc k) = word_at words k
 
 -- each argument has the value that the parts give it
-pub record IsFound (c : Command) (f : Found) (p : Parts) : Type 0 where
+pub record IsFound (c : Command) (f : Found) (p : WordParts) : Type 0 where
   pub settings : (s : Setting) → first_value f (id_of s) ≡ value_of s p.given
   pub plain : (k : ℕ) → option_and_then (first_value f) (plain_id c k) ≡ word_at p.plain k
 
 -- the parts of spaced words were found; or they have none, or none that name a job
 abbrev pub FindsParts : Command → List (List ℕ) → Result ArgMatches JobFault → Type 0
-FindsParts c words (Ok m) = (p : Parts) × (parts_after c None words ≡ Some p) × IsFound c (found_of m) p
+FindsParts c words (Ok m) = (p : WordParts) × (parts_after c None words ≡ Some p) × IsFound c (found_of m) p
 FindsParts c words (Err Words) = option_and_then (job_by c) (parts_after c None words) ≡ None
 FindsParts c words (Err NoMemory) = Unit {0}
 

@@ -21,7 +21,7 @@ use Rattle.sbpl_job.specs.declared.words.Command.{Command}
 use Rattle.sbpl_job.specs.declared.words.Command.TheVariants as command
 use Rattle.sbpl_job.specs.declared.words.Setting.TheVariants as setting
 use Rattle.sbpl_job.specs.declared.words.Setting.{Setting}
-use Rattle.sbpl_job.specs.Words.{Parts, parts_of, value_of}
+use Rattle.sbpl_job.specs.Words.{WordParts, parts_of, value_of}
 
 -- the values that are given to settings
 abbrev pub Settings : Type 0
@@ -245,7 +245,7 @@ job_with command.Nav (env ∷ []) set = nav_in env set
 job_with command.NavCheck (env ∷ (labels ∷ [])) set = nav_check_in env labels set
 job_with _ _ _ = None
 
-abbrev pub job_by : Command → Parts → Option Job
+abbrev pub job_by : Command → WordParts → Option Job
 job_by c p = job_with c p.plain (λ s. value_of s p.given)
 
 -- the job that the words name

@@ -27,17 +27,17 @@ pub record Given : Type 0 where
   pub value : List ℕ
 
 -- plain words, and settings with their values, each in its order
-pub record Parts : Type 0 where
+pub record WordParts : Type 0 where
   pub plain : List (List ℕ)
   pub given : List Given
 
-abbrev pub no_parts : Parts
+abbrev pub no_parts : WordParts
 no_parts = record { plain = []; given = [] }
 
-abbrev pub with_plain : List ℕ → Parts → Parts
+abbrev pub with_plain : List ℕ → WordParts → WordParts
 with_plain word p = record p { plain = word ∷ p.plain }
 
-abbrev pub with_given : Setting → List ℕ → Parts → Parts
+abbrev pub with_given : Setting → List ℕ → WordParts → WordParts
 with_given s value p = record p { given = record { setting = s; value = value } ∷ p.given }
 
 -- a word is plain: not empty, and it does not begin with a dash
@@ -118,7 +118,7 @@ is_known c word = is_plain_word word || is_some (setting_of c word)
 
 -- How spaced words divide, where a setting may await its value: a plain word is that value, or stands by itself; a setting's
 -- name awaits its value in the next word.
-abbrev pub parts_after : Command → Option Setting → List (List ℕ) → Option Parts
+abbrev pub parts_after : Command → Option Setting → List (List ℕ) → Option WordParts
 parts_after c None [] = Some no_parts
 parts_after c (Some s) [] = None
 parts_after c (Some s) (word ∷ words) = if is_plain_word word then option_map (with_given s word) (parts_after c None words) else None
@@ -141,10 +141,10 @@ are_fit c [] = true
 are_fit c (word ∷ words) = (is_known c word && stands_once c word words) && are_fit c words
 
 -- the parts of spaced words, in which no setting stands twice; and those of words
-abbrev pub parts_in : Command → List (List ℕ) → Option Parts
+abbrev pub parts_in : Command → List (List ℕ) → Option WordParts
 parts_in c words = if once c words then parts_after c None words else None
 
-abbrev pub parts_of : Command → List (List ℕ) → Option Parts
+abbrev pub parts_of : Command → List (List ℕ) → Option WordParts
 parts_of c words = parts_in c (spaced c words)
 
 -- the value of a setting, if it is given

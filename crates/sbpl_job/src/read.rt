@@ -128,7 +128,8 @@ fn nav_settings(
     changes: &Option<Name>,
     matches: &ArgMatches,
 ) -> Result<(SearchJob, Outputs), JobFault>
-    ensures job { IfOk result (λ x. nav_on env.now changes.now (set_in matches.now) ≡ Some (nav_by env.now changes.now x.1 x.0)) }
+    ensures job { IfOk result
+        (λ x. nav_on env.now changes.now (set_in matches.now) ≡ Some (nav_by env.now changes.now x.1 x.0)) }
     ensures none { IfErr result (λ e. e ≡ JobFault.Words → nav_on env.now changes.now (set_in matches.now) ≡ None) }
     ensures range { IfOk result (λ x. IsSearchJob x.0) }
     ensures stays { IfOk result (λ x. may_move x.0.planner ≡ false) }

@@ -7,12 +7,12 @@ use Rattle.sbpl_checks.specs.sbpl_job.declared.job.Job.TheVariants as job
 use Rattle.sbpl_checks.specs.sbpl_report.declared.refusal.Input.TheVariants as input
 use Rattle.sbpl_checks.specs.sbpl_report.declared.refusal.Refusal.{Refusal}
 use Rattle.sbpl_checks.specs.sbpl_report.declared.refusal.Refusal.TheVariants as refusal
-use Rattle.sbpl_checks.specs.sbpl_report.declared.refusal.Stop.{Stop}
-use Rattle.sbpl_checks.specs.sbpl_report.declared.refusal.Stop.TheVariants as stop
+use Rattle.sbpl_checks.specs.sbpl_report.declared.refusal.JobStop.{JobStop}
+use Rattle.sbpl_checks.specs.sbpl_report.declared.refusal.JobStop.TheVariants as stop
 use Rattle.sbpl_checks.specs.sbpl_promises.Causes.{CausesStand, CheckStopsFor, EarlyStopsFor, IsFailedOn, IsJobCause, IsLabelsCause}
-use Rattle.sbpl_checks.specs.sbpl_promises.Causes.{IsTooLong, IsUnread, ReadsCourse}
+use Rattle.sbpl_checks.specs.sbpl_promises.Causes.{IsTooLong, IsUnread, ReadsUpdates}
 use Rattle.sbpl_checks.specs.sbpl_promises.WorldFiles.{WorldFiles}
-use Rattle.sbpl_checks.specs.sbpl_promises.declared.course.Course.{Course}
+use Rattle.sbpl_checks.specs.sbpl_promises.declared.updates.Updates.{Updates}
 use Rattle.sbpl_checks.specs.sbpl_promises.Intents.{BeginsAfter, published_by, Intent, Refused}
 use Rattle.sbpl_checks.specs.sbpl_promises.Intents.{intent_status, refusal_writes, writes_of}
 use Rattle.sbpl_checks.specs.sbpl_report.Refusals.{refusal_status}
@@ -36,13 +36,13 @@ failed_later s t u low high name failed = rose_later _ _ _ (low name) (high name
 
 -- an early stop is one of a check
 pub early_stop : {W : Type 0} (s t : DeskState) (f : WorldFiles W) (changes : Option (List ℕ)) (labels : List ℕ)
-    (x : Stop) → EarlyStopsFor s t f changes x → CheckStopsFor s t f changes labels x
+    (x : JobStop) → EarlyStopsFor s t f changes x → CheckStopsFor s t f changes labels x
 early_stop s t f changes labels stop.NoMemory cause = tt
 early_stop s t f changes labels (stop.Refused r m) cause = inl cause
 
--- a stop for the file of labels is one of a check, where a world and a course were read before
+-- a stop for the file of labels is one of a check, where a world and map updates were read before
 pub labels_stop : {W : Type 0} (s t u : DeskState) (f : WorldFiles W) (changes : Option (List ℕ)) (labels : List ℕ)
-    (w : W) (c : Course) (x : Stop) → f.stand_for s.held w → ReadsCourse s.held changes (f.scope w) c → ReadsOnly s t
+    (w : W) (c : Updates) (x : JobStop) → f.stand_for s.held w → ReadsUpdates s.held changes (f.scope w) c → ReadsOnly s t
     → IsUnread t u labels input.Labels x → CheckStopsFor s u f changes labels x
 labels_stop s t u f changes labels w c stop.NoMemory says changes_say same cause = tt
 labels_stop s t u f changes labels w c (stop.Refused r m) says changes_say same cause = inr (by_refusal r cause)

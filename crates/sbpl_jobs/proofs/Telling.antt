@@ -20,7 +20,7 @@ use Rattle.sbpl_checks.specs.sbpl_cert.declared.outcome.Outcome.{Outcome}
 use Rattle.sbpl_checks.specs.sbpl_report.Refusals.{input_name, refusal_status}
 use Rattle.sbpl_checks.specs.sbpl_report.declared.refusal.Refusal.{Refusal}
 use Rattle.sbpl_checks.specs.sbpl_report.declared.refusal.Refusal.TheVariants as refusal
-use Rattle.sbpl_checks.specs.sbpl_report.declared.refusal.Stop.{Stop}
+use Rattle.sbpl_checks.specs.sbpl_report.declared.refusal.JobStop.{JobStop}
 use Rattle.sbpl_checks.specs.sbpl_telling.Endings.{EndsTelling, as_wanted, cut, message_of, ran_out}
 use Rattle.sbpl_checks.specs.sbpl_telling.declared.ending.Ending.{Ending}
 use Rattle.sbpl_checks.specs.Checking.{IsStopTold}
@@ -58,7 +58,7 @@ plain_ending s u old new j status e is none fine ends = record {
 }
 
 -- a job that publishes nothing ends so whatever was published
-pub ending_of : (r : Result Ending Stop) (s u : DeskState) (log : List Entry) (j k : Job) → k ≡ j
+pub ending_of : (r : Result Ending JobStop) (s u : DeskState) (log : List Entry) (j k : Job) → k ≡ j
     → IfOk r (λ e. (l : List Entry) → IsJobEnding s u l l j e) → IfOk r (IsJobEnding s u log log k)
 ending_of (Ok e) s u log j k is so = subst (λ (x : Job). IsJobEnding s u log log x e) (sym is) (so log)
 ending_of (Err x) s u log j k is so = tt

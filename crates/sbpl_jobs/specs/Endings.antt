@@ -7,7 +7,7 @@ use Rattle.sbpl_checks.specs.sbpl_promises.Promises.{EndsJob, EndsRun}
 use Rattle.sbpl_checks.specs.sbpl_promises.Published.{Entry}
 use Rattle.sbpl_checks.specs.sbpl_promises.Writing.{DeskState}
 use Rattle.sbpl_checks.specs.sbpl_report.Refusals.{input_name}
-use Rattle.sbpl_checks.specs.sbpl_report.declared.refusal.Stop.{Stop}
+use Rattle.sbpl_checks.specs.sbpl_report.declared.refusal.JobStop.{JobStop}
 use Rattle.sbpl_checks.specs.sbpl_telling.Endings.{message_of}
 use Rattle.sbpl_checks.specs.sbpl_telling.declared.ending.Ending.{Ending}
 
@@ -17,7 +17,7 @@ pub record IsJobEnding (before after : DeskState) (old new : List Entry) (j : Jo
   pub told : IsToldOf before after j e.status (message_of e)
 
 -- a job stopped for this before anything was written, for a cause, and this is what is told of it
-pub record IsJobStop (before after : DeskState) (j : Job) (s : Stop) : Type 0 where
+pub record IsJobStop (before after : DeskState) (j : Job) (s : JobStop) : Type 0 where
   pub cause : JobStopsFor before after j s
   pub told : ExplainsStop before.held (input_name j) s
 

@@ -6,7 +6,7 @@ ghost use Rattle.sbpl_checks.specs.Checking.{EndsSections};
 ghost use Rattle.sbpl_checks.specs.sbpl_cost.Lattices.{network_of};
 ghost use Rattle.sbpl_checks.specs.sbpl_cost.World.{IsWorld};
 ghost use Rattle.sbpl_checks.specs.sbpl_fixed.Formats.{start_at};
-ghost use Rattle.sbpl_checks.specs.sbpl_promises.Causes.{AreRead, IsCourseIn, IsReadText, check_files};
+ghost use Rattle.sbpl_checks.specs.sbpl_promises.Causes.{AreRead, AreUpdatesIn, IsReadText, check_files};
 ghost use Rattle.sbpl_checks.specs.sbpl_promises.Checked.{case_of};
 ghost use Rattle.sbpl_checks.specs.sbpl_promises.LatticeSite.{lattice_site};
 ghost use Rattle.sbpl_checks.specs.sbpl_promises.Sites.{searched_on};
@@ -15,33 +15,33 @@ ghost use Rattle.sbpl_checks.specs.sbpl_promises.Writing.{IsOutput, ReadsOnly, W
 ghost use Rattle.sbpl_jobs.specs.Endings.{IsJobEnding, IsJobStop};
 
 use sbpl_checks::{
-    CheckJob, Course, Desk, Ending, Input, LabelFile, Lattice, Reversed, Stop, Workspace,
-    check_text, read_course, read_file,
+    CheckJob, Desk, Ending, Input, JobStop, LabelFile, Lattice, Reversed, Updates, Workspace,
+    check_text, read_file, read_updates,
 };
 use std::alloc::Global;
 
-/// The lattice, the course of the change file, and the text of the labels.
+/// The lattice, the map updates of the change file, and the text of the labels.
 fn read_check<D: Desk>(
     alloc: Global,
     job: &CheckJob,
     desk: &mut D,
-) -> Result<(Lattice, Course, Vec<u8>), Stop>
+) -> Result<(Lattice, Updates, Vec<u8>), JobStop>
     requires range { job.now.sources.radius ≤ 10 ^ 12 }
-    ensures course { IfOk result (λ x. AreRead (D.state desk.old).held (check_files job.now) job.now.changes x.0 x.1) }
+    ensures updates { IfOk result (λ x. AreRead (D.state desk.old).held (check_files job.now) job.now.changes x.0 x.1) }
     ensures text { IfOk result (λ x. IsReadText ((D.state desk.old).held job.now.labels) x.2.items) }
     ensures stop { IfErr result (IsJobStop (D.state desk.old) (D.state desk.new) (Jobs.Check job.now)) }
     ensures frame { ReadsOnly (D.state desk.old) (D.state desk.new) }
 {
-    let (lattice, course) = match read_course(alloc, &job.sources, &job.changes, job.back, desk) {
+    let (lattice, updates) = match read_updates(alloc, &job.sources, &job.changes, job.back, desk) {
         Ok(read) => read,
         Err(stop) => return Err(stop),
     };
     match read_file(alloc, &job.labels, Input::Labels, desk) {
-        Ok(text) => Ok((lattice, course, text)),
+        Ok(text) => Ok((lattice, updates, text)),
         Err(stop) => {
             // Let go by a call: the drop of each field here would make the proof long.
             drop(lattice);
-            drop(course);
+            drop(updates);
             Err(stop)
         }
     }
@@ -52,7 +52,7 @@ fn read_check<D: Desk>(
 fn check_on_lattice<D: Desk>(
     alloc: Global,
     lattice: Lattice,
-    course: &Course,
+    updates: &Updates,
     start: u32,
     goal: u32,
     back: bool,
@@ -62,20 +62,21 @@ fn check_on_lattice<D: Desk>(
     requires start { start < (network_of lattice).states }
     requires goal { goal < (network_of lattice).states }
     requires kept { IsWorld lattice }
-    requires course { (moving : Bool) × IsCourseIn lattice_site moving lattice course.now }
-    ensures ends { EndsSections (case_of (searched_on lattice_site back) lattice course.now start goal) 0
-        (suc (length course.now.batches)) (start_at labels.now.text.now 0) labels.now (D.state desk.old) (D.state desk.new) result }
+    requires updates { (moving : Bool) × AreUpdatesIn lattice_site moving lattice updates.now }
+    ensures ends { EndsSections (case_of (searched_on lattice_site back) lattice updates.now start goal) 0
+        (suc (length updates.now.batches)) (start_at labels.now.text.now 0) labels.now (D.state desk.old)
+        (D.state desk.new) result }
     ensures frame { WritesOnly IsOutput (D.state desk.old) (D.state desk.new) }
 {
     if back {
         let mut reversed = Reversed::new(lattice);
-        let ending = check_text(alloc, &mut reversed, course, start, goal, labels, desk);
+        let ending = check_text(alloc, &mut reversed, updates, start, goal, labels, desk);
         // Let go by a call: the drop of each field here would make the proof long.
         drop(reversed);
         return ending;
     }
     let mut lattice = lattice;
-    let ending = check_text(alloc, &mut lattice, course, start, goal, labels, desk);
+    let ending = check_text(alloc, &mut lattice, updates, start, goal, labels, desk);
     drop(lattice);
     ending
 }
@@ -85,7 +86,7 @@ pub(crate) fn run_check<D: Desk>(
     alloc: Global,
     job: &CheckJob,
     desk: &mut D,
-) -> Result<Ending, Stop>
+) -> Result<Ending, JobStop>
     requires range { job.now.sources.radius ≤ 10 ^ 12 }
     ensures ends { IfOk result (λ e. (log : List Entry) → IsJobEnding (D.state desk.old) (D.state desk.new) log log
         (Jobs.Check job.now) e) }
@@ -94,17 +95,17 @@ pub(crate) fn run_check<D: Desk>(
     ensures frame { WritesOnly IsOutput (D.state desk.old) (D.state desk.new) }
 {
     Lattice::has_its_arcs();
-    let (lattice, course, text) = read_check(alloc, job, desk)?;
+    let (lattice, updates, text) = read_check(alloc, job, desk)?;
     let (start, goal) = lattice.ends();
     let labels = LabelFile {
         name: &job.labels,
         text: text.as_slice(),
     };
     let ending = check_on_lattice(
-        alloc, lattice, &course, start, goal, job.back, &labels, desk,
+        alloc, lattice, &updates, start, goal, job.back, &labels, desk,
     );
     // Let go by a call: the drop of each field here would make the proof long.
-    drop(course);
+    drop(updates);
     drop(text);
     Ok(ending)
 }

@@ -6,7 +6,7 @@ ghost use Rattle.sbpl_checks.specs.sbpl_cost.World.{IsWorld};
 ghost use Rattle.sbpl_checks.specs.sbpl_demo.Changes.{changes_drawn};
 ghost use Rattle.sbpl_checks.specs.sbpl_job.Jobs.{IsDemoJob};
 ghost use Rattle.sbpl_checks.specs.sbpl_job.declared.job.Job.TheVariants as Jobs;
-ghost use Rattle.sbpl_checks.specs.sbpl_promises.Causes.{IsCourseIn, IsDrawn, demo_search};
+ghost use Rattle.sbpl_checks.specs.sbpl_promises.Causes.{AreUpdatesIn, IsDrawn, demo_search};
 ghost use Rattle.sbpl_checks.specs.sbpl_promises.LatticeSite.{lattice_site};
 ghost use Rattle.sbpl_checks.specs.sbpl_report.Report.{demo_text};
 ghost use Rattle.sbpl_checks.specs.sbpl_promises.Texts.{still};
@@ -16,8 +16,8 @@ ghost use Rattle.sbpl_plans.specs.Boards.{IsSamePublisher, entries_of};
 ghost use Rattle.sbpl_jobs.specs.Endings.{IsJobEnding};
 
 use sbpl_checks::{
-    Changes, Course, DemoJob, Desk, Ending, Gate, Graph, LabelForm, Lattice, Lines, NoMemory,
-    OUTPUT, Outputs, Planner, SearchJob, Workspace, WriteStop, demo_line, draw, status_after,
+    Changes, DemoJob, Desk, Ending, Gate, Graph, LabelForm, Lattice, Lines, NoMemory, OUTPUT,
+    Outputs, Planner, SearchJob, Updates, Workspace, WriteStop, demo_line, draw, status_after,
     write_text,
 };
 use sbpl_plans::{LiveBoard, Task, make_plans};
@@ -67,15 +67,15 @@ fn demonstrate<R: Threads + Wait + Sync, D: Desk, T: Gate + Sync>(
     alloc: Global,
     job: &DemoJob,
     lattice: Lattice,
-    course: &Course,
+    updates: &Updates,
     live: &mut LiveBoard<R>,
     desk: &mut D,
     gate: &T,
 ) -> u8
     requires drawn { IsDrawn job.now lattice }
-    requires course { course.now ≡ still (changes_drawn job.now.width job.now.height job.now.seed) }
+    requires updates { updates.now ≡ still (changes_drawn job.now.width job.now.height job.now.seed) }
     requires kept { IsWorld lattice }
-    requires in_world { IsCourseIn lattice_site false lattice course.now }
+    requires in_world { AreUpdatesIn lattice_site false lattice updates.now }
     requires few { length (entries_of live.old) < 2 ^ 62 }
     ensures ends { EndsJob (D.state desk.old) (D.state desk.new) (entries_of live.old) (entries_of live.new)
         (Jobs.Demo job.now) result }
@@ -84,7 +84,7 @@ fn demonstrate<R: Threads + Wait + Sync, D: Desk, T: Gate + Sync>(
     ensures frame { WritesOnly IsOutput (D.state desk.old) (D.state desk.new) }
 {
     let (start, goal) = lattice.ends();
-    if let Err(stop) = write_first(alloc, &lattice, &course.batches, desk) {
+    if let Err(stop) = write_first(alloc, &lattice, &updates.batches, desk) {
         return status_after(Err(stop), 9);
     }
     let outputs = Outputs {
@@ -97,7 +97,7 @@ fn demonstrate<R: Threads + Wait + Sync, D: Desk, T: Gate + Sync>(
     let task = Task {
         how: &how,
         outputs: &outputs,
-        course,
+        updates,
         start,
         goal,
     };
@@ -121,13 +121,13 @@ pub(crate) fn run_demo<R: Threads + Wait + Sync, D: Desk, T: Gate + Sync>(
 {
     match draw(alloc, job) {
         Ok((lattice, batches)) => {
-            let course = Course {
+            let updates = Updates {
                 batches,
                 moves: None,
             };
-            let status = demonstrate(alloc, job, lattice, &course, live, desk, gate);
+            let status = demonstrate(alloc, job, lattice, &updates, live, desk, gate);
             // Let go by a call: the drop of each field here would make the proof long.
-            drop(course);
+            drop(updates);
             Ending::plain(alloc, status)
         }
         Err(NoMemory) => Ending::plain(alloc, 9),

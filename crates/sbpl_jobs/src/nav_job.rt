@@ -10,8 +10,8 @@ ghost use Rattle.sbpl_plans.specs.Boards.{IsSamePublisher, entries_of};
 ghost use Rattle.sbpl_jobs.specs.Endings.{IsJobEnding, IsJobStop};
 
 use sbpl_checks::{
-    Course, Desk, Ending, Gate, Input, LabelFile, Nav, NavCheckJob, NavJob, Stop, Workspace,
-    check_text, read_file, read_grid_course,
+    Desk, Ending, Gate, Input, JobStop, LabelFile, Nav, NavCheckJob, NavJob, Updates, Workspace,
+    check_text, read_file, read_grid_updates,
 };
 use sbpl_plans::{LiveBoard, Task, make_plans};
 use std::alloc::Global;
@@ -25,7 +25,7 @@ pub(crate) fn run_nav<R: Threads + Wait + Sync, D: Desk, T: Gate + Sync>(
     live: &mut LiveBoard<R>,
     desk: &mut D,
     gate: &T,
-) -> Result<Ending, Stop>
+) -> Result<Ending, JobStop>
     requires range { IsJob (Jobs.Nav job.now) }
     requires few { length (entries_of live.old) < 2 ^ 62 }
     ensures ends { IfOk result (IsJobEnding (D.state desk.old) (D.state desk.new) (entries_of live.old)
@@ -36,12 +36,12 @@ pub(crate) fn run_nav<R: Threads + Wait + Sync, D: Desk, T: Gate + Sync>(
     ensures same { IsSamePublisher live.old live.new }
     ensures frame { WritesOnly (IsOutputOf job.now.outputs) (D.state desk.old) (D.state desk.new) }
 {
-    let (nav, course) = read_grid_course(alloc, &job.env, &job.changes, desk)?;
+    let (nav, updates) = read_grid_updates(alloc, &job.env, &job.changes, desk)?;
     let (start, goal) = nav.ends();
     let task = Task {
         how: &job.search,
         outputs: &job.outputs,
-        course: &course,
+        updates: &updates,
         start,
         goal,
     };
@@ -49,23 +49,23 @@ pub(crate) fn run_nav<R: Threads + Wait + Sync, D: Desk, T: Gate + Sync>(
     Ok(Ending::plain(alloc, status))
 }
 
-/// The grid, the course of the change file, and the text of the labels.
+/// The grid, the map updates of the change file, and the text of the labels.
 fn read_nav_check<D: Desk>(
     alloc: Global,
     job: &NavCheckJob,
     desk: &mut D,
-) -> Result<(Nav, Course, Vec<u8>), Stop>
-    ensures course { IfOk result (λ x. AreRead (D.state desk.old).held (grid_files job.now.env) job.now.changes x.0 x.1) }
+) -> Result<(Nav, Updates, Vec<u8>), JobStop>
+    ensures updates { IfOk result (λ x. AreRead (D.state desk.old).held (grid_files job.now.env) job.now.changes x.0 x.1) }
     ensures text { IfOk result (λ x. IsReadText ((D.state desk.old).held job.now.labels) x.2.items) }
     ensures stop { IfErr result (IsJobStop (D.state desk.old) (D.state desk.new) (Jobs.NavCheck job.now)) }
     ensures frame { ReadsOnly (D.state desk.old) (D.state desk.new) }
 {
-    let (nav, course) = match read_grid_course(alloc, &job.env, &job.changes, desk) {
+    let (nav, updates) = match read_grid_updates(alloc, &job.env, &job.changes, desk) {
         Ok(read) => read,
         Err(stop) => return Err(stop),
     };
     match read_file(alloc, &job.labels, Input::Labels, desk) {
-        Ok(text) => Ok((nav, course, text)),
+        Ok(text) => Ok((nav, updates, text)),
         Err(stop) => Err(stop),
     }
 }
@@ -75,7 +75,7 @@ pub(crate) fn run_navcheck<D: Desk>(
     alloc: Global,
     job: &NavCheckJob,
     desk: &mut D,
-) -> Result<Ending, Stop>
+) -> Result<Ending, JobStop>
     ensures ends { IfOk result (λ e. (log : List Entry) → IsJobEnding (D.state desk.old) (D.state desk.new) log log
         (Jobs.NavCheck job.now) e) }
     ensures stop { IfErr result (IsJobStop (D.state desk.old) (D.state desk.new) (Jobs.NavCheck job.now)) }
@@ -83,12 +83,12 @@ pub(crate) fn run_navcheck<D: Desk>(
     ensures frame { WritesOnly IsOutput (D.state desk.old) (D.state desk.new) }
 {
     Nav::has_its_arcs();
-    let (mut nav, course, text) = read_nav_check(alloc, job, desk)?;
+    let (mut nav, updates, text) = read_nav_check(alloc, job, desk)?;
     let (start, goal) = nav.ends();
     let labels = LabelFile {
         name: &job.labels,
         text: text.as_slice(),
     };
-    let ending = check_text(alloc, &mut nav, &course, start, goal, &labels, desk);
+    let ending = check_text(alloc, &mut nav, &updates, start, goal, &labels, desk);
     Ok(ending)
 }

@@ -7,7 +7,7 @@ ghost use Rattle.sbpl_checks.specs.sbpl_promises.Writing.{IsOutputOf, ReadsOnly,
 ghost use Rattle.sbpl_plans.specs.Boards.{IsSamePublisher, entries_of};
 ghost use Rattle.sbpl_jobs.specs.Endings.{IsJobEnding, IsJobStop};
 
-use sbpl_checks::{Desk, Ending, Gate, PlanJob, Reversed, Stop, Workspace, read_course};
+use sbpl_checks::{Desk, Ending, Gate, JobStop, PlanJob, Reversed, Workspace, read_updates};
 use sbpl_plans::{LiveBoard, Task, make_plans};
 use std::alloc::Global;
 use std::sync::Wait;
@@ -21,7 +21,7 @@ pub(crate) fn run_plan<R: Threads + Wait + Sync, D: Desk, T: Gate + Sync>(
     live: &mut LiveBoard<R>,
     desk: &mut D,
     gate: &T,
-) -> Result<Ending, Stop>
+) -> Result<Ending, JobStop>
     requires range { IsJob (Jobs.Plan job.now) }
     requires few { length (entries_of live.old) < 2 ^ 62 }
     ensures ends { IfOk result (IsJobEnding (D.state desk.old) (D.state desk.new) (entries_of live.old)
@@ -33,12 +33,12 @@ pub(crate) fn run_plan<R: Threads + Wait + Sync, D: Desk, T: Gate + Sync>(
     ensures frame { WritesOnly (IsOutputOf job.now.outputs) (D.state desk.old) (D.state desk.new) }
 {
     let moving = job.search.planner.may_move();
-    let (lattice, course) = read_course(alloc, &job.sources, &job.changes, moving, desk)?;
+    let (lattice, updates) = read_updates(alloc, &job.sources, &job.changes, moving, desk)?;
     let (start, goal) = lattice.ends();
     let task = Task {
         how: &job.search,
         outputs: &job.outputs,
-        course: &course,
+        updates: &updates,
         start,
         goal,
     };
@@ -46,10 +46,10 @@ pub(crate) fn run_plan<R: Threads + Wait + Sync, D: Desk, T: Gate + Sync>(
         let world = Reversed::new(lattice);
         let status = make_plans(gate, alloc, world, &task, live, &job.outputs, desk);
         // Let go by a call: the drop of each field here would make the proof long.
-        drop(course);
+        drop(updates);
         return Ok(Ending::plain(alloc, status));
     }
     let status = make_plans(gate, alloc, lattice, &task, live, &job.outputs, desk);
-    drop(course);
+    drop(updates);
     Ok(Ending::plain(alloc, status))
 }

@@ -16,7 +16,7 @@ use crate::nav_job::{run_nav, run_navcheck};
 use crate::plan_job::run_plan;
 use crate::sweep_job::run_sweep;
 use sbpl_checks::{
-    Desk, Ending, Gate, Job, JobFault, Message, NoMemory, Refusal, Stop, causes_stand, end_with,
+    Desk, Ending, Gate, Job, JobFault, JobStop, Message, NoMemory, Refusal, causes_stand, end_with,
     read_job, refusal_line,
 };
 use sbpl_message::words_message;
@@ -44,7 +44,7 @@ fn run_job<R: Threads + Wait + Sync, D: Desk, T: Gate + Sync>(
     live: &mut LiveBoard<R>,
     desk: &mut D,
     gate: &T,
-) -> Result<Ending, Stop>
+) -> Result<Ending, JobStop>
     requires range { IsJob job.now }
     requires few { length (entries_of live.old) < 2 ^ 62 }
     ensures ends { IfOk result (IsJobEnding (D.state desk.old) (D.state desk.new) (entries_of live.old)
@@ -105,12 +105,12 @@ pub fn run_words<R: Threads + Wait + Sync, D: Desk, T: Gate + Sync>(
             drop(job);
             ending
         }
-        Err(Stop::Refused(refusal, why)) => {
+        Err(JobStop::Refused(refusal, why)) => {
             let ending = refuse(alloc, &job, refusal, why, desk);
             drop(job);
             ending
         }
-        Err(Stop::NoMemory) => {
+        Err(JobStop::NoMemory) => {
             drop(job);
             Ending::plain(alloc, 9)
         }

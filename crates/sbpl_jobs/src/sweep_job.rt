@@ -10,7 +10,7 @@ ghost use Rattle.sbpl_checks.specs.sbpl_job.declared.job.Job.TheVariants as Jobs
 ghost use Rattle.sbpl_jobs.specs.Endings.{IsJobEnding, IsJobStop};
 
 use sbpl_checks::{
-    Desk, Ending, Lattice, NoMemory, OUTPUT, Sources, Stop, WriteStop, listing_at, read_lattice,
+    Desk, Ending, JobStop, Lattice, NoMemory, OUTPUT, Sources, WriteStop, listing_at, read_lattice,
     status_after, write_last, write_text,
 };
 use std::alloc::Global;
@@ -55,7 +55,7 @@ pub(crate) fn run_sweep<D: Desk>(
     alloc: Global,
     from: &Sources,
     desk: &mut D,
-) -> Result<Ending, Stop>
+) -> Result<Ending, JobStop>
     requires range { IsJob (Jobs.Sweep from.now) }
     ensures ends { IfOk result (λ e. (log : List Entry) → IsJobEnding (D.state desk.old) (D.state desk.new) log log
         (Jobs.Sweep from.now) e) }

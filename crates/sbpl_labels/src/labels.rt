@@ -1,6 +1,7 @@
 //! The labels of all states.
 
-ghost use Rattle.std.specs.Prelude.{◌≡◌, ◌≢◌, ℕ, ◌^◌, ◌<◌, ◌≤◌, ◌↔◌, IfOk, IsTrue, Some, List, [], length, vec_capacity};
+ghost use Rattle.std.specs.Prelude.{◌≡◌, ◌≢◌, ℕ, ◌^◌, ◌<◌, ◌≤◌, ◌↔◌, IfOk, IsTrue, Some, List};
+ghost use Rattle.std.specs.Prelude.{[], length, vec_capacity};
 ghost use Rattle.std.specs.Prelude.{slice_index_or};
 ghost use Rattle.sbpl_graph.specs.Bound.{IsLow};
 ghost use Rattle.sbpl_graph.specs.Certificate.{IsLabel, AreSupported};

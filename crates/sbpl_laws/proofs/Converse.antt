@@ -24,16 +24,16 @@ use Rattle.sbpl_promises.specs.sbpl_report.declared.refusal.Refusal.{Refusal}
 use Rattle.sbpl_promises.specs.sbpl_report.declared.refusal.Refusal.TheVariants as refusal
 use Rattle.sbpl_promises.specs.Causes.{AtName, IsCause, IsChangesCause, IsEarlyCause, IsFaultyChanges, IsFaultyFor}
 use Rattle.sbpl_promises.specs.Causes.{IsGridCause, IsJobCause, IsLabelsCause, IsReadText, IsTooLong, NoneTooDear}
-use Rattle.sbpl_promises.specs.Causes.{ReadsCourse, ReadsEnvironment, ReadsGrid, ReadsPrimitives, ReadsWorld}
+use Rattle.sbpl_promises.specs.Causes.{ReadsUpdates, ReadsEnvironment, ReadsGrid, ReadsPrimitives, ReadsWorld}
 use Rattle.sbpl_promises.specs.Causes.{check_files, grid_files, grid_scope, lattice_files, plan_files, scope_of}
 use Rattle.sbpl_promises.specs.WorldFiles.{WorldFiles}
-use Rattle.sbpl_promises.specs.declared.course.Course.{Course}
+use Rattle.sbpl_promises.specs.declared.updates.Updates.{Updates}
 use Rattle.sbpl_promises.specs.sbpl_job.Jobs.{may_move, moves_in}
 use Rattle.sbpl_promises.specs.Intents.{Intent, Refused, Planned, Checked, Listed}
 use Rattle.sbpl_promises.specs.Intents.{Demonstrated, OutOfMemory, intent_status}
 use Rattle.sbpl_promises.specs.sbpl_report.Refusals.{refusal_status}
 use Rattle.sbpl_promises.specs.Promises.{AreGood, GivesIntent, IsNoCheck, IsOrFailed, Tells, TellsChangeFault}
-use Rattle.sbpl_promises.specs.Promises.{TellsCourse, TellsEnvironment, TellsEnvironmentFault, TellsGrid}
+use Rattle.sbpl_promises.specs.Promises.{TellsUpdates, TellsEnvironment, TellsEnvironmentFault, TellsGrid}
 use Rattle.sbpl_promises.specs.Promises.{TellsGridFault, TellsPrimitiveFault, TellsPrimitives, TellsScope, TellsTooMuch}
 use Rattle.sbpl_promises.specs.Promises.{TellsWorld, changes_of, grid_of, sources_of}
 use Rattle.sbpl_promises.specs.Texts.{HasChangeFault, HasEnvironmentFault, HasGridFault}
@@ -143,22 +143,22 @@ same_primitives clear held from env d cells ps qs told (text, tells, stands) fir
     clear.primitives text env qs ps
     (subst (λ x. IsPrimitiveText x text qs) same (said_primitives held from d qs text tells second)) stands
 
--- where a course is told, no fault of the changes was read
-course_not_faulty : TextsAreClear → (held : Told) (name : List ℕ) (s : Scope) (c : Course) (f : ChangeFault)
-    → TellsCourse held (Some name) s c → IsFaultyChanges held name s f → ⊥
-course_not_faulty clear held name s c f (text, tells, stands) faulty =
+-- where map updates are told, no fault of the changes was read
+updates_not_faulty : TextsAreClear → (held : Told) (name : List ℕ) (s : Scope) (c : Updates) (f : ChangeFault)
+    → TellsUpdates held (Some name) s c → IsFaultyChanges held name s f → ⊥
+updates_not_faulty clear held name s c f (text, tells, stands) faulty =
     clear.change_fault s text c f stands
     (subst (λ t. HasChangeFault s t f) (told_is _ text faulty.text tells.held_bytes faulty.read) faulty.faulty)
 
-course_not_long : (held : Told) (name : List ℕ) (s : Scope) (c : Course) → TellsCourse held (Some name) s c
+updates_not_long : (held : Told) (name : List ℕ) (s : Scope) (c : Updates) → TellsUpdates held (Some name) s c
     → IsTooLong (held name) → ⊥
-course_not_long held name s c (text, tells, stands) long = too_long_not_short _ text tells long
+updates_not_long held name s c (text, tells, stands) long = too_long_not_short _ text tells long
 
--- the course that was read is the one that is told
-pub same_course : TextsAreClear → (held : Told) (changes : Option (List ℕ)) (s : Scope) (c d : Course)
-    → TellsCourse held changes s c → ReadsCourse held changes s d → d ≡ c
-same_course clear held None s c d told says = says ∙ sym told
-same_course clear held (Some name) s c d (text, tells, stands) (t, read, also) =
+-- the updates that were read are the ones that are told
+pub same_updates : TextsAreClear → (held : Told) (changes : Option (List ℕ)) (s : Scope) (c d : Updates)
+    → TellsUpdates held changes s c → ReadsUpdates held changes s d → d ≡ c
+same_updates clear held None s c d told says = says ∙ sym told
+same_updates clear held (Some name) s c d (text, tells, stands) (t, read, also) =
     clear.changes s text d c (subst (λ u. IsChangeText s u d) (told_is _ text t tells.held_bytes read) also) stands
 
 -- where no primitive is too dear, the first one that is has no place
@@ -181,21 +181,21 @@ no_memory wanted = inr (inr (inr refl))
 
 -- ---- what was read where a job got this far
 
--- the files stand for a world and a course
+-- the files stand for a world and map updates
 pub record HasRead {W : Type 0} (held : Told) (f : WorldFiles W) (changes : Option (List ℕ)) : Type 0 where
   pub world : W
-  pub course : Course
+  pub updates : Updates
   pub says : f.stand_for held world
-  pub stands : ReadsCourse held changes (f.scope world) course
+  pub stands : ReadsUpdates held changes (f.scope world) updates
 
 -- the file of labels is tried after the others
-labels_course : {W : Type 0} (held : Told) (Failed : Names) (f : WorldFiles W) (changes : Option (List ℕ))
+labels_updates : {W : Type 0} (held : Told) (Failed : Names) (f : WorldFiles W) (changes : Option (List ℕ))
     (labels : List ℕ) (r : Refusal) → IsLabelsCause held Failed f changes labels r → HasRead held f changes
-labels_course held Failed f changes labels (refusal.Read input.Labels) (w, course, says, stands, at) =
-    record { world = w; course = course; says = says; stands = stands }
-labels_course held Failed f changes labels (refusal.Length input.Labels) (w, course, says, stands, at) =
-    record { world = w; course = course; says = says; stands = stands }
-labels_course held Failed f changes labels _ cause = absurd cause
+labels_updates held Failed f changes labels (refusal.Read input.Labels) (w, updates, says, stands, at) =
+    record { world = w; updates = updates; says = says; stands = stands }
+labels_updates held Failed f changes labels (refusal.Length input.Labels) (w, updates, says, stands, at) =
+    record { world = w; updates = updates; says = says; stands = stands }
+labels_updates held Failed f changes labels _ cause = absurd cause
 
 -- a file of labels was not read: the reading failed, or it is too long
 pub labels_refused : {W : Type 0} (held : Told) (Failed : Names) (f : WorldFiles W) (changes : Option (List ℕ))
@@ -203,7 +203,7 @@ pub labels_refused : {W : Type 0} (held : Told) (Failed : Names) (f : WorldFiles
     → IsLabelsCause held Failed f changes labels r
     → IsOrFailed wanted (refusal_status r)
 labels_refused held Failed f changes labels wanted (refusal.Read x) long cause = failed_read wanted
-labels_refused held Failed f changes labels wanted (refusal.Length input.Labels) long (w, course, says, stands, at) =
+labels_refused held Failed f changes labels wanted (refusal.Length input.Labels) long (w, updates, says, stands, at) =
     long at
 labels_refused held Failed f changes labels wanted _ long cause = absurd cause
 
@@ -221,7 +221,7 @@ IsMore (Refused r) = ⊥
 IsMore OutOfMemory = ⊥
 IsMore _ = Unit {0}
 
--- A job reads a world and a course of these files: it is refused for
+-- A job reads a world and map updates of these files: it is refused for
 -- one of them, or it is a check and they were read; and what else it
 -- means to do, it does after it read them.
 pub record IsReadFrom {W : Type 0} (j : Job) (f : WorldFiles W) (changes : Option (List ℕ)) : Type 1 where
@@ -239,7 +239,7 @@ plan_reads p = record { cause = λ held Failed r cause. inl cause; more = more }
     more : (held : Told) (Failed : Names) (i : Intent) → IsMore i → GivesIntent held Failed (job.Plan p) i
         → HasRead held (plan_files p) p.changes
     more held Failed (Planned records all log broken) is gives =
-        record { world = gives.world; course = gives.course; says = gives.says; stands = gives.changes_say }
+        record { world = gives.world; updates = gives.updates; says = gives.says; stands = gives.changes_say }
     more held Failed (Refused r) is gives = absurd is
     more held Failed OutOfMemory is gives = absurd is
     more held Failed _ is gives = absurd gives
@@ -251,12 +251,12 @@ check_reads c = record { cause = cause; more = more }
         → IsEarlyCause held Failed (check_files c) c.changes r
         ⊎ (HasRead held (check_files c) c.changes × (IsNoCheck (job.Check c) → ⊥))
     cause held Failed r (inl x) = inl x
-    cause held Failed r (inr x) = inr (labels_course held Failed (check_files c) c.changes c.labels r x, λ none. none)
+    cause held Failed r (inr x) = inr (labels_updates held Failed (check_files c) c.changes c.labels r x, λ none. none)
 
     more : (held : Told) (Failed : Names) (i : Intent) → IsMore i → GivesIntent held Failed (job.Check c) i
         → HasRead held (check_files c) c.changes
     more held Failed (Checked goals os end) is gives =
-        record { world = gives.world; course = gives.course; says = gives.says; stands = gives.changes_say }
+        record { world = gives.world; updates = gives.updates; says = gives.says; stands = gives.changes_say }
     more held Failed (Refused r) is gives = absurd is
     more held Failed OutOfMemory is gives = absurd is
     more held Failed _ is gives = absurd gives
@@ -266,7 +266,7 @@ sweep_reads from = record { cause = λ held Failed r cause. inl (inl cause); mor
   where
     more : (held : Told) (Failed : Names) (i : Intent) → IsMore i → GivesIntent held Failed (job.Sweep from) i
         → HasRead held (lattice_files from false) None
-    more held Failed (Listed w) is gives = record { world = w; course = still []; says = gives.0; stands = refl }
+    more held Failed (Listed w) is gives = record { world = w; updates = still []; says = gives.0; stands = refl }
     more held Failed (Refused r) is gives = absurd is
     more held Failed OutOfMemory is gives = absurd is
     more held Failed _ is gives = absurd gives
@@ -277,7 +277,7 @@ nav_reads n = record { cause = λ held Failed r cause. inl cause; more = more }
     more : (held : Told) (Failed : Names) (i : Intent) → IsMore i → GivesIntent held Failed (job.Nav n) i
         → HasRead held (grid_files n.env) n.changes
     more held Failed (Planned records all log broken) is gives =
-        record { world = gives.world; course = gives.course; says = gives.says; stands = gives.changes_say }
+        record { world = gives.world; updates = gives.updates; says = gives.says; stands = gives.changes_say }
     more held Failed (Refused r) is gives = absurd is
     more held Failed OutOfMemory is gives = absurd is
     more held Failed _ is gives = absurd gives
@@ -290,12 +290,12 @@ nav_check_reads n = record { cause = cause; more = more }
         ⊎ (HasRead held (grid_files n.env) n.changes × (IsNoCheck (job.NavCheck n) → ⊥))
     cause held Failed r (inl x) = inl x
     cause held Failed r (inr x) =
-        inr (labels_course held Failed (grid_files n.env) n.changes n.labels r x, λ none. none)
+        inr (labels_updates held Failed (grid_files n.env) n.changes n.labels r x, λ none. none)
 
     more : (held : Told) (Failed : Names) (i : Intent) → IsMore i → GivesIntent held Failed (job.NavCheck n) i
         → HasRead held (grid_files n.env) n.changes
     more held Failed (Checked goals os end) is gives =
-        record { world = gives.world; course = gives.course; says = gives.says; stands = gives.changes_say }
+        record { world = gives.world; updates = gives.updates; says = gives.says; stands = gives.changes_say }
     more held Failed (Refused r) is gives = absurd is
     more held Failed OutOfMemory is gives = absurd is
     more held Failed _ is gives = absurd gives
@@ -331,7 +331,7 @@ lattice_reads (job.Demo d) from is = absurd cc
 lattice_reads (job.Nav n) from is = absurd cc
 lattice_reads (job.NavCheck n) from is = absurd cc
 
--- A job whose files stand for no world and course means nothing but a refusal, or memory runs out.
+-- A job whose files stand for no world and updates means nothing but a refusal, or memory runs out.
 pub by_intent : {W : Type 0} (held : Told) (Failed : Names) (wanted : ℕ) (j : Job) (f : WorldFiles W)
     (changes : Option (List ℕ)) (i : Intent) → IsReadFrom j f changes
     → ((r : Refusal) → IsJobCause held Failed j r → IsOrFailed wanted (refusal_status r))
@@ -380,15 +380,15 @@ module _ (clear : TextsAreClear) (held : Told) (Failed : Names) {W : Type 0} (f 
           let found = named changes (λ name. IsTooLong (held name)) at in long found.0 found.1 found.2
       by_changes _ p = absurd p
 
-  -- and not even for that, where it stands for a course: then only a failed read is left
-  pub all_good : (c : Course) (wanted : ℕ) → TellsCourse held changes s c → (r : Refusal)
+  -- and not even for that, where it stands for map updates: then only a failed read is left
+  pub all_good : (c : Updates) (wanted : ℕ) → TellsUpdates held changes s c → (r : Refusal)
       → IsEarlyCause held Failed f changes r → IsOrFailed wanted (refusal_status r)
   all_good c wanted told =
       good_refused wanted
-      (λ name x is faulty. absurd (course_not_faulty clear held name s c x
-      (subst (λ (o : Option (List ℕ)). TellsCourse held o s c) is told) faulty))
+      (λ name x is faulty. absurd (updates_not_faulty clear held name s c x
+      (subst (λ (o : Option (List ℕ)). TellsUpdates held o s c) is told) faulty))
       (λ name is long.
-      absurd (course_not_long held name s c (subst (λ (o : Option (List ℕ)). TellsCourse held o s c) is told) long))
+      absurd (updates_not_long held name s c (subst (λ (o : Option (List ℕ)). TellsUpdates held o s c) is told) long))
 
   -- a change file that is too long
   pub changes_long : (name : List ℕ) → changes ≡ Some name → TellsTooMuch (held name) → (r : Refusal)
@@ -401,7 +401,7 @@ module _ (clear : TextsAreClear) (held : Told) (Failed : Names) {W : Type 0} (f 
 
   pub changes_long_none : (name : List ℕ) → changes ≡ Some name → TellsTooMuch (held name) → HasRead held f changes → ⊥
   changes_long_none name is much c =
-      let said = subst (λ (o : Option (List ℕ)). ReadsCourse held o (f.scope c.world) c.course) is c.stands in
+      let said = subst (λ (o : Option (List ℕ)). ReadsUpdates held o (f.scope c.world) c.updates) is c.stands in
       too_much_not_read (held name) said.0 much said.1
 
   -- a faulty change file
@@ -415,12 +415,12 @@ module _ (clear : TextsAreClear) (held : Told) (Failed : Names) {W : Type 0} (f 
 
   pub changes_faulty_none : (x : ChangeFault) → TellsChangeFault held changes s x → HasRead held f changes → ⊥
   changes_faulty_none x (name, text, is, tells, faulty) c =
-      let said = subst (λ (o : Option (List ℕ)). ReadsCourse held o (f.scope c.world) c.course) is c.stands in
-      let here : IsChangeText (f.scope c.world) text c.course =
-      subst (λ (t : List ℕ). IsChangeText (f.scope c.world) t c.course)
+      let said = subst (λ (o : Option (List ℕ)). ReadsUpdates held o (f.scope c.world) c.updates) is c.stands in
+      let here : IsChangeText (f.scope c.world) text c.updates =
+      subst (λ (t : List ℕ). IsChangeText (f.scope c.world) t c.updates)
       (told_is (held name) text said.0 tells.held_bytes said.1) said.2 in
-      clear.change_fault s text c.course x
-      (subst (λ (t : Scope). IsChangeText t text c.course) (good.scope c.world c.says) here) faulty
+      clear.change_fault s text c.updates x
+      (subst (λ (t : Scope). IsChangeText t text c.updates) (good.scope c.world c.says) here) faulty
 
 module _ (clear : TextsAreClear) (held : Told) (Failed : Names) (from : Sources) where
   -- a faulty environment

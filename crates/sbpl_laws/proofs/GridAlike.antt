@@ -6,7 +6,7 @@ use Rattle.sbpl_promises.specs.sbpl_nav2d.Guides.{IsOctile}
 use Rattle.sbpl_promises.specs.sbpl_nav2d.Reads.{ReadsCell}
 use Rattle.sbpl_promises.specs.sbpl_nav2d.World.{GridWorld, IsGridWorld, over_map}
 use Rattle.sbpl_promises.specs.sbpl_report.declared.record.PathStep.{PathStep}
-use Rattle.sbpl_promises.specs.GridSite.{IsGridStep, cell_spot, grid_site}
+use Rattle.sbpl_promises.specs.GridSite.{IsGridStep, cell_report_pose, grid_site}
 use Rattle.sbpl_laws.proofs.AlikeSites.{AreAlike}
 
 abbrev pub AreOneGrid : GridWorld → GridWorld → Type 0
@@ -19,8 +19,8 @@ states_are w = refl
 one_step : (w v : GridWorld) (s k t : ℕ) (x y : PathStep) → w ≡ v → IsGridStep w s k t x → IsGridStep v s k t y → x ≡ y
 one_step w v s k t x y same a b =
     let id : x.id ≡ y.id = a.id ∙ sym b.id in
-    let spot : x.spot ≡ y.spot = a.spot ∙ ap (λ (u : GridWorld). cell_spot u t) same ∙ sym b.spot in
-    λ i. record { id = id i; spot = spot i }
+    let report_pose : x.report_pose ≡ y.report_pose = a.report_pose ∙ ap (λ (u : GridWorld). cell_report_pose u t) same ∙ sym b.report_pose in
+    λ i. record { id = id i; report_pose = report_pose i }
 
 pub grids_alike : AreAlike grid_site AreOneGrid
 grids_alike = record {
@@ -44,7 +44,7 @@ grids_alike = record {
   moved = λ w v goal h a same x. subst (λ (u : GridWorld). IsOctile u goal h) a x;
   starts = λ w v s t a x y. x ∙ ap (λ (u : GridWorld). u.env.start) a ∙ sym y;
   ends = λ w v s t a x y. x ∙ ap (λ (u : GridWorld). u.env.end) a ∙ sym y;
-  spot = λ w v s a. ap (λ (u : GridWorld). cell_spot u s) a;
+  report_pose = λ w v s a. ap (λ (u : GridWorld). cell_report_pose u s) a;
   step = λ w v s k t x y a b c. one_step w v s k t x y a b c;
-  state = λ w v a. ap grid_site.wording.state a;
+  state = λ w v a. ap grid_site.reporting.state a;
 }

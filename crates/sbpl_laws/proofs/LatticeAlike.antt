@@ -23,7 +23,7 @@ use Rattle.sbpl_promises.specs.sbpl_heur.Walks.{IsCellBound}
 use Rattle.sbpl_promises.specs.Determined.{AreAlikeWorlds}
 use Rattle.sbpl_promises.specs.LatticeSite.{IsPathStep, IsStateOf, lattice_site}
 use Rattle.sbpl_promises.specs.sbpl_report.declared.record.PathStep.{PathStep}
-use Rattle.sbpl_promises.specs.sbpl_report.declared.record.Spot.TheVariants as spot
+use Rattle.sbpl_promises.specs.sbpl_report.declared.record.ReportPose.TheVariants as report_pose
 use Rattle.sbpl_laws.proofs.AlikeSites.{AreAlike}
 
 -- a world of these parts
@@ -137,13 +137,13 @@ one_step : (w : World) (s k t : ℕ) (x y : PathStep) → IsPathStep w s k t x �
 one_step w s k t x y a b =
     let motion : a.primitive ≡ b.primitive = one_motion w s k a.index b.index a.primitive b.primitive a.by b.by in
     let id : x.id ≡ y.id = a.id ∙ ap (λ (p : Primitive). p.id) motion ∙ sym b.id in
-    let spot : x.spot ≡ y.spot = a.spot ∙ sym b.spot in
-    λ i. record { id = id i; spot = spot i }
+    let report_pose : x.report_pose ≡ y.report_pose = a.report_pose ∙ sym b.report_pose in
+    λ i. record { id = id i; report_pose = report_pose i }
 
 -- a step in one of two worlds that differ in their tables of sweeps alone is one in the other
 step_on : (w : World) (others : Swept) (s k t : ℕ) (x : PathStep)
     → IsPathStep (made w.env w.prims others w.map) s k t x → IsPathStep w s k t x
-step_on w others s k t x a = record { index = a.index; primitive = a.primitive; by = a.by; id = a.id; spot = a.spot }
+step_on w others s k t x a = record { index = a.index; primitive = a.primitive; by = a.by; id = a.id; report_pose = a.report_pose }
 
 -- and a cell that is read in the one is read in the other
 reads_on : (w : World) (others : Swept) (s k : ℕ) (x y : ℤ) → others.radius ≡ w.sweeps.radius → ReadsCell w s k x y
@@ -197,7 +197,7 @@ lattices_alike one_graph = record {
   starts =
       λ w v s t a x y. one_state w.env w.env.start s t x (subst (λ (e : Environment). IsStateOf e e.start t) a.env y);
   ends = λ w v s t a x y. one_state w.env w.env.end s t x (subst (λ (e : Environment). IsStateOf e e.end t) a.env y);
-  spot = λ w v s a. ap (λ (e : Environment). spot.Pose (place_of e s)) (sym a.env);
+  report_pose = λ w v s a. ap (λ (e : Environment). report_pose.Pose (place_of e s)) (sym a.env);
   step = λ w v s k t x y a b c. one_step w s k t x y b
       (step_on w v.sweeps s k t y (subst (λ (u : World). IsPathStep u s k t y) (sym (is_made_of w v a)) c));
   state = λ w v a. let env = sym a.env in λ i place. state_number (env i) place;

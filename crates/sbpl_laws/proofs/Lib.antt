@@ -1,4 +1,4 @@
-pub mod Laws
+pub mod ReaderLaws
 pub mod Converse
 pub mod Runs
 pub mod OneEnding

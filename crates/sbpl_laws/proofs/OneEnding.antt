@@ -23,7 +23,7 @@ use Rattle.sbpl_promises.specs.Intents.{checked_status}
 use Rattle.sbpl_promises.specs.Promises.{IsCheckedIn, IsOrFailed}
 use Rattle.sbpl_promises.specs.Sites.{Site, network_by, says_by, searched_on, start_after, to_of}
 use Rattle.sbpl_laws.proofs.AlikeSites.{AreAlike, GoesAlike, same_starts}
-use Rattle.sbpl_promises.specs.declared.course.Course.{Course}
+use Rattle.sbpl_promises.specs.declared.updates.Updates.{Updates}
 
 left_by : (end end' : ℕ) (ts us : List Piece) → end ≡ end' → ts ≡ us
     → ◌≡◌ {A = Left} (record { end = end; tokens = ts }) (record { end = end'; tokens = us })
@@ -51,10 +51,10 @@ one_ground on Alike alike back goes one c k n o a b =
     (alike.cell_map w b.map b.is_world) a.after b.after in
     let here = on.cells.over w b.map in
     let to : ℕ = to_in c k in
-    let guide : says_by back on.wording.told on.says here to n.guide =
-    subst (λ (m : CellMap). says_by back on.wording.told on.says (on.cells.over w m) to n.guide) maps a.guide in
+    let guide : says_by back on.reporting.told on.says here to n.guide =
+    subst (λ (m : CellMap). says_by back on.reporting.told on.says (on.cells.over w m) to n.guide) maps a.guide in
     record {
-      network = a.network ∙ ap (λ (m : CellMap). network_by back (on.wording.told (on.cells.over w m))) maps ∙ sym b.network;
+      network = a.network ∙ ap (λ (m : CellMap). network_by back (on.reporting.told (on.cells.over w m))) maps ∙ sym b.network;
       guide = λ u inside. goes.guides here here to n.guide o.guide (alike.same here) refl guide b.guide
           u (subst (λ (count : ℕ). u < count) (ap (λ (x : Network). x.states) b.network ∙ goes.states here) inside);
     }
@@ -177,7 +177,7 @@ module _ {W : Type 0} (on : Site W) (Alike : W → W → Type 0) (alike : AreAli
   same_graph k n g =
       let b : Alike (on.cells.over v g.map) (on.cells.over w g.map) = alike.over v w g.map a in
       let there : on.cells.is_made (on.cells.over w g.map) = alike.made w v g.map (alike.back v w a) made g.is_world in
-      let graph : on.wording.told (on.cells.over v g.map) ≡ on.wording.told (on.cells.over w g.map) =
+      let graph : on.reporting.told (on.cells.over v g.map) ≡ on.reporting.told (on.cells.over w g.map) =
       alike.graph _ _ b g.is_world there in
       record {
         map = g.map;
@@ -211,36 +211,36 @@ pub same_case : {W : Type 0} (on : Site W) (v : W) (bs cs : List (List Write)) (
     (g g' : ℕ) (t t' : List ℕ) (os : List Outcome) (end : Option SectionStop) → cs ≡ bs → s ≡ s' → g ≡ g' → t ≡ t'
     → AreChecked IsShownHolding (case_in on v cs s g) 0 (suc (length cs)) (start_at t 0) os end
     → AreChecked IsShownHolding (case_in on v bs s' g') 0 (suc (length bs)) (start_at t' 0) os end
-same_case on v bs cs s s' g g' t t' os end course from to text checked =
+same_case on v bs cs s s' g g' t t' os end updates from to text checked =
     subst (λ (l : List (List Write)).
-    AreChecked IsShownHolding (case_in on v l s' g') 0 (suc (length l)) (start_at t' 0) os end) course
+    AreChecked IsShownHolding (case_in on v l s' g') 0 (suc (length l)) (start_at t' 0) os end) updates
     (subst
     (λ (x : ℕ → ℕ). AreChecked IsShownHolding (case_in on v cs x g') 0 (suc (length cs)) (start_at t' 0) os end) from
     (subst (λ (x : ℕ). AreChecked IsShownHolding (case_in on v cs s x) 0 (suc (length cs)) (start_at t' 0) os end) to
     (subst (λ (x : List ℕ). AreChecked IsShownHolding (case_in on v cs s g) 0 (suc (length cs)) (start_at x 0) os end)
     text checked)))
 
--- in alike worlds and over one course, the checking of one text ends in one way
+-- in alike worlds and over the same map updates, the checking of one text ends in one way
 pub checked_ends_alike : {W : Type 0} (on : Site W) (Alike : W → W → Type 0) (alike : AreAlike on Alike)
     (back : Bool) (goes : GoesAlike on Alike back) → SectionsAreClear → OneMap
-    → (w v : W) (course also : Course) (text same_text : List ℕ) (goals others : ℕ → ℕ) (os ps : List Outcome)
+    → (w v : W) (updates also : Updates) (text same_text : List ℕ) (goals others : ℕ → ℕ) (os ps : List Outcome)
     (a b : Option SectionStop)
-    → Alike v w → on.cells.is_made w → also ≡ course → same_text ≡ text → a ≢ Some section.NoMemory
-    → IsCheckedIn IsHolding (searched_on on back) w course text goals os a
+    → Alike v w → on.cells.is_made w → also ≡ updates → same_text ≡ text → a ≢ Some section.NoMemory
+    → IsCheckedIn IsHolding (searched_on on back) w updates text goals os a
     → IsCheckedIn IsShownHolding (searched_on on back) v also same_text others ps b → EndAlike a b
-checked_ends_alike on Alike alike back goes sections one w v course also text same_text goals others os ps a b near made
-    courses texts some x y =
+checked_ends_alike on Alike alike back goes sections one w v updates also text same_text goals others os ps a b near made
+    all_updates texts some x y =
     let from : y.start ≡ x.start = alike.starts v w y.start x.start near y.start_is x.start_is in
     let to : y.goal ≡ x.goal = alike.ends v w y.goal x.goal near y.goal_is x.goal_is in
-    let mine : ℕ → ℕ = start_after on.wording w x.start course.moves in
-    let starts : start_after on.wording v y.start also.moves ≡ mine =
-    same_starts on.wording v w y.start x.start also.moves course.moves (alike.state v w near) from
-    (ap (λ (c : Course). c.moves) courses) in
-    let batches : also.batches ≡ course.batches = ap (λ (c : Course). c.batches) courses in
+    let mine : ℕ → ℕ = start_after on.reporting w x.start updates.moves in
+    let starts : start_after on.reporting v y.start also.moves ≡ mine =
+    same_starts on.reporting v w y.start x.start also.moves updates.moves (alike.state v w near) from
+    (ap (λ (c : Updates). c.moves) all_updates) in
+    let batches : also.batches ≡ updates.batches = ap (λ (c : Updates). c.batches) all_updates in
     let there =
-    same_case (searched_on on back) v course.batches also.batches (start_after on.wording v y.start also.moves) mine y.goal x.goal
+    same_case (searched_on on back) v updates.batches also.batches (start_after on.reporting v y.start also.moves) mine y.goal x.goal
     same_text text ps b batches starts to texts y.checked in
-    one_ending on Alike alike back goes sections one (case_of (searched_on on back) w course x.start x.goal) (suc (length course.batches)) 0
+    one_ending on Alike alike back goes sections one (case_of (searched_on on back) w updates x.start x.goal) (suc (length updates.batches)) 0
     (start_at text 0) os ps a b some x.checked
-    (checked_on on Alike alike back goes v w near made course.batches mine x.goal (suc (length course.batches)) 0
+    (checked_on on Alike alike back goes v w near made updates.batches mine x.goal (suc (length updates.batches)) 0
     (start_at text 0) ps b there)

@@ -18,10 +18,10 @@ use Rattle.sbpl_promises.specs.sbpl_report.declared.refusal.Refusal.{Refusal}
 use Rattle.sbpl_promises.specs.sbpl_report.declared.refusal.Refusal.TheVariants as refusal
 use Rattle.sbpl_promises.specs.Causes.{AtName, IsCause, IsChangesCause, IsCheckCause, IsEarlyCause, IsEarlyInput}
 use Rattle.sbpl_promises.specs.Causes.{IsFaultyChanges, IsFaultyEnvironment, IsFaultyFor, IsFaultyGrid, IsGridCause}
-use Rattle.sbpl_promises.specs.Causes.{IsLabelsCause, IsReadText, IsSource, IsTooLong, ReadsCourse, ReadsEnvironment}
+use Rattle.sbpl_promises.specs.Causes.{IsLabelsCause, IsReadText, IsSource, IsTooLong, ReadsUpdates, ReadsEnvironment}
 use Rattle.sbpl_promises.specs.Causes.{ReadsGrid, ReadsPrimitives, ReadsWorld, grid_files, lattice_files}
 use Rattle.sbpl_promises.specs.sbpl_nav2d.World.{GridWorld}
-use Rattle.sbpl_promises.specs.declared.course.Course.{Course}
+use Rattle.sbpl_promises.specs.declared.updates.Updates.{Updates}
 use Rattle.sbpl_promises.specs.Clear.{TextsAreClear}
 use Rattle.sbpl_promises.specs.WorldFiles.{WorldFiles}
 use Rattle.sbpl_promises.specs.Texts.{HasChangeFault, HasEnvironmentFault, HasGridFault, HasPrimitiveFault}
@@ -94,13 +94,13 @@ AreBadChanges held s r name =
     ((f : ChangeFault) × (r ≡ refusal.Changes f) × IsFaultyChanges held name s f)
     ⊎ ((r ≡ refusal.Length input.Changes) × IsTooLong (held name))
 
-abbrev pub IsBadCourse : {W : Type 0} → Told → WorldFiles W → Option (List ℕ) → Refusal → Type 0
-IsBadCourse {W} held f changes r = (w : W) × f.stand_for held w × AtName changes (AreBadChanges held (f.scope w) r)
+abbrev pub AreBadUpdates : {W : Type 0} → Told → WorldFiles W → Option (List ℕ) → Refusal → Type 0
+AreBadUpdates {W} held f changes r = (w : W) × f.stand_for held w × AtName changes (AreBadChanges held (f.scope w) r)
 
 -- the file of labels is too long
 abbrev pub AreBadLabels : {W : Type 0} → Told → WorldFiles W → Option (List ℕ) → (labels : List ℕ) → Refusal → Type 0
 AreBadLabels {W} held f changes labels r =
-    (w : W) × (c : Course) × f.stand_for held w × ReadsCourse held changes (f.scope w) c
+    (w : W) × (c : Updates) × f.stand_for held w × ReadsUpdates held changes (f.scope w) c
     × ((r ≡ refusal.Length input.Labels) × IsTooLong (held labels))
 
 -- a read of a file with this property failed, and this says so
@@ -136,34 +136,34 @@ source_cause held Failed from (refusal.Length input.Primitives) c =
     inl (inr (c.env, c.cells, c.environment, inl (inr (refl, c.holds))))
 source_cause held Failed from _ c = absurd c
 
-course_cause : {W : Type 0} (held : Told) (Failed : Names) (f : WorldFiles W) (changes : Option (List ℕ)) (r : Refusal)
-    → IsChangesCause held Failed f changes r → IsBadCourse held f changes r ⊎ IsFailedRead (IsNamed changes) Failed r
-course_cause held Failed f changes (refusal.Changes x) (w, says, at) =
+updates_cause : {W : Type 0} (held : Told) (Failed : Names) (f : WorldFiles W) (changes : Option (List ℕ)) (r : Refusal)
+    → IsChangesCause held Failed f changes r → AreBadUpdates held f changes r ⊎ IsFailedRead (IsNamed changes) Failed r
+updates_cause held Failed f changes (refusal.Changes x) (w, says, at) =
     inl (
       w,
       says,
       at_name_on changes (λ name. IsFaultyChanges held name (f.scope w) x)
           (AreBadChanges held (f.scope w) (refusal.Changes x)) (λ name faulty. inl (x, refl, faulty)) at,
     )
-course_cause held Failed f changes (refusal.Read input.Changes) (w, says, at) =
+updates_cause held Failed f changes (refusal.Read input.Changes) (w, says, at) =
     let found = named_at changes Failed at in
     inr (input.Changes, refl, (found.0, found.1, found.2))
-course_cause held Failed f changes (refusal.Length input.Changes) (w, says, at) =
+updates_cause held Failed f changes (refusal.Length input.Changes) (w, says, at) =
     inl (
       w,
       says,
       at_name_on changes (λ name. IsTooLong (held name)) (AreBadChanges held (f.scope w) (refusal.Length input.Changes))
           (λ name long. inr (refl, long)) at,
     )
-course_cause held Failed f changes _ c = absurd c
+updates_cause held Failed f changes _ c = absurd c
 
 labels_cause : {W : Type 0} (held : Told) (Failed : Names) (f : WorldFiles W) (changes : Option (List ℕ))
     (labels : List ℕ) (r : Refusal) → IsLabelsCause held Failed f changes labels r
     → AreBadLabels held f changes labels r ⊎ IsFailedRead (λ name. name ≡ labels) Failed r
-labels_cause held Failed f changes labels (refusal.Read input.Labels) (w, course, says, changes_say, rose) =
+labels_cause held Failed f changes labels (refusal.Read input.Labels) (w, updates, says, changes_say, rose) =
     inr (input.Labels, refl, (labels, refl, rose))
-labels_cause held Failed f changes labels (refusal.Length input.Labels) (w, course, says, changes_say, long) =
-    inl (w, course, says, changes_say, (refl, long))
+labels_cause held Failed f changes labels (refusal.Length input.Labels) (w, updates, says, changes_say, long) =
+    inl (w, updates, says, changes_say, (refl, long))
 labels_cause held Failed f changes labels _ c = absurd c
 
 -- a read that failed of a file with one property failed of one with another that follows
@@ -300,23 +300,23 @@ module _ (clear : TextsAreClear) (held : Told) where
       absurd (read_is_short (held name) y.text told y.read long)
   one_changes s r u name told (inr (is, long)) (inr (also, too)) = is ∙ sym also
 
-  not_changes : (s : Scope) (r : Refusal) (c : Course) (name : List ℕ) → IsSome (held name)
-      → AreBadChanges held s r name → ReadsCourse held (Some name) s c → ⊥
+  not_changes : (s : Scope) (r : Refusal) (c : Updates) (name : List ℕ) → IsSome (held name)
+      → AreBadChanges held s r name → ReadsUpdates held (Some name) s c → ⊥
   not_changes s r c name told (inl (f, is, x)) (t, read, stands) =
       let text : t ≡ x.text = read_once (held name) t x.text told read x.read in
       let own : IsChangeText s x.text c = subst (λ (l : List ℕ). IsChangeText s l c) text stands in
       clear.change_fault s x.text c f own x.faulty
   not_changes s r c name told (inr (is, long)) (t, read, stands) = read_is_short (held name) t told read long
 
-  at_course : (s : Scope) (o : Option (List ℕ)) (r u : Refusal) → IfSome o (λ name. IsSome (held name))
+  at_updates : (s : Scope) (o : Option (List ℕ)) (r u : Refusal) → IfSome o (λ name. IsSome (held name))
       → AtName o (AreBadChanges held s r) → AtName o (AreBadChanges held s u) → r ≡ u
-  at_course s None r u told x y = absurd x
-  at_course s (Some name) r u told x y = one_changes s r u name told x y
+  at_updates s None r u told x y = absurd x
+  at_updates s (Some name) r u told x y = one_changes s r u name told x y
 
-  off_course : (s : Scope) (o : Option (List ℕ)) (r : Refusal) (c : Course) → IfSome o (λ name. IsSome (held name))
-      → AtName o (AreBadChanges held s r) → ReadsCourse held o s c → ⊥
-  off_course s None r c told x says = x
-  off_course s (Some name) r c told x says = not_changes s r c name told x says
+  off_updates : (s : Scope) (o : Option (List ℕ)) (r : Refusal) (c : Updates) → IfSome o (λ name. IsSome (held name))
+      → AtName o (AreBadChanges held s r) → ReadsUpdates held o s c → ⊥
+  off_updates s None r c told x says = x
+  off_updates s (Some name) r c told x says = not_changes s r c name told x says
 
 -- as far as they are told, the files of a world call for one refusal of these, or stand for a world
 pub record CallForOne {W : Type 0} (held : Told) (f : WorldFiles W) (Bad : Refusal → Type 0) : Type 1 where
@@ -372,20 +372,20 @@ module _ (clear : TextsAreClear) (held : Told) (env : List ℕ) (told : IsSome (
 module _ (clear : TextsAreClear) (held : Told) {W : Type 0} (f : WorldFiles W) (Alike : W → W → Type 0)
     (stand : StandForOne held f Alike) (Bad : Refusal → Type 0) (calls : CallForOne held f Bad)
     (changes : Option (List ℕ)) (told_changes : IfSome changes (λ name. IsSome (held name))) where
-  one_bad_course : (r u : Refusal) → IsBadCourse held f changes r → IsBadCourse held f changes u → r ≡ u
-  one_bad_course r u (w, says, x) (v, also, y) =
-      at_course clear held (f.scope w) changes r u told_changes x
+  one_bad_updates : (r u : Refusal) → AreBadUpdates held f changes r → AreBadUpdates held f changes u → r ≡ u
+  one_bad_updates r u (w, says, x) (v, also, y) =
+      at_updates clear held (f.scope w) changes r u told_changes x
       (subst (λ (s : Scope). AtName changes (AreBadChanges held s u)) (stand.scope w v (stand.one w v says also)) y)
 
-  not_course : (w : W) (c : Course) (r : Refusal) → IsBadCourse held f changes r → f.stand_for held w
-      → ReadsCourse held changes (f.scope w) c → ⊥
-  not_course w c r (v, also, x) says course =
-      off_course clear held (f.scope w) changes r c told_changes (subst (λ (s : Scope).
-      AtName changes (AreBadChanges held s r)) (stand.scope w v (stand.one w v says also)) x) course
+  not_updates : (w : W) (c : Updates) (r : Refusal) → AreBadUpdates held f changes r → f.stand_for held w
+      → ReadsUpdates held changes (f.scope w) c → ⊥
+  not_updates w c r (v, also, x) says updates =
+      off_updates clear held (f.scope w) changes r c told_changes (subst (λ (s : Scope).
+      AtName changes (AreBadChanges held s r)) (stand.scope w v (stand.one w v says also)) x) updates
 
   -- what calls for a refusal before a plan is made
   abbrev pub IsEarlyBad : Refusal → Type 0
-  IsEarlyBad r = Bad r ⊎ IsBadCourse held f changes r
+  IsEarlyBad r = Bad r ⊎ AreBadUpdates held f changes r
 
   pub early_bad : (Failed : Names) (r : Refusal) → IsEarlyCause held Failed f changes r
       → IsEarlyBad r ⊎ IsFailedRead (IsEarlyInput f changes) Failed r
@@ -393,7 +393,7 @@ module _ (clear : TextsAreClear) (held : Told) {W : Type 0} (f : WorldFiles W) (
     | inl bad ↦ inl (inl bad)
     | inr out ↦ inr (failed_on f.names (IsEarlyInput f changes) Failed r (λ name is. inl is) out)
   ]
-  early_bad Failed r (inr c) = elim (course_cause held Failed f changes r c) [
+  early_bad Failed r (inr c) = elim (updates_cause held Failed f changes r c) [
     | inl bad ↦ inl (inr bad)
     | inr out ↦ inr (failed_on (IsNamed changes) (IsEarlyInput f changes) Failed r (λ name is. inr is) out)
   ]
@@ -402,12 +402,12 @@ module _ (clear : TextsAreClear) (held : Told) {W : Type 0} (f : WorldFiles W) (
   one_early r u (inl x) (inl y) = calls.one r u x y
   one_early r u (inl x) (inr y) = absurd (calls.none y.0 r x y.1)
   one_early r u (inr x) (inl y) = absurd (calls.none x.0 u y x.1)
-  one_early r u (inr x) (inr y) = one_bad_course r u x y
+  one_early r u (inr x) (inr y) = one_bad_updates r u x y
 
-  pub not_early : (w : W) (c : Course) (r : Refusal) → IsEarlyBad r → f.stand_for held w
-      → ReadsCourse held changes (f.scope w) c → ⊥
-  not_early w c r (inl x) says course = calls.none w r x says
-  not_early w c r (inr x) says course = not_course w c r x says course
+  pub not_early : (w : W) (c : Updates) (r : Refusal) → IsEarlyBad r → f.stand_for held w
+      → ReadsUpdates held changes (f.scope w) c → ⊥
+  not_early w c r (inl x) says updates = calls.none w r x says
+  not_early w c r (inr x) says updates = not_updates w c r x says updates
 
   -- and before labels are checked
   module _ (labels : List ℕ) where
@@ -431,12 +431,12 @@ module _ (clear : TextsAreClear) (held : Told) {W : Type 0} (f : WorldFiles W) (
 
     pub one_check : (r u : Refusal) → IsCheckBad r → IsCheckBad u → r ≡ u
     one_check r u (inl x) (inl y) = one_early r u x y
-    one_check r u (inl x) (inr (w, c, says, course, y)) = absurd (not_early w c r x says course)
-    one_check r u (inr (w, c, says, course, x)) (inl y) = absurd (not_early w c u y says course)
-    one_check r u (inr (w, c, says, course, x)) (inr (v, d, also, too, y)) = x.0 ∙ sym y.0
+    one_check r u (inl x) (inr (w, c, says, updates, y)) = absurd (not_early w c r x says updates)
+    one_check r u (inr (w, c, says, updates, x)) (inl y) = absurd (not_early w c u y says updates)
+    one_check r u (inr (w, c, says, updates, x)) (inr (v, d, also, too, y)) = x.0 ∙ sym y.0
 
-    pub not_check : IsSome (held labels) → (w : W) (c : Course) (text : List ℕ) (r : Refusal) → IsCheckBad r
-        → f.stand_for held w → ReadsCourse held changes (f.scope w) c → IsReadText (held labels) text → ⊥
-    not_check told w c text r (inl x) says course read = not_early w c r x says course
-    not_check told w c text r (inr (v, d, also, too, x)) says course read =
+    pub not_check : IsSome (held labels) → (w : W) (c : Updates) (text : List ℕ) (r : Refusal) → IsCheckBad r
+        → f.stand_for held w → ReadsUpdates held changes (f.scope w) c → IsReadText (held labels) text → ⊥
+    not_check told w c text r (inl x) says updates read = not_early w c r x says updates
+    not_check told w c text r (inr (v, d, also, too, x)) says updates read =
         read_is_short (held labels) text told read x.1

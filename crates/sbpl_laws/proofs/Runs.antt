@@ -31,11 +31,11 @@ use Rattle.sbpl_promises.specs.sbpl_report.declared.record.PlanRecord.{PlanRecor
 use Rattle.sbpl_promises.specs.sbpl_report.declared.refusal.Refusal.{Refusal}
 use Rattle.sbpl_promises.specs.sbpl_report.declared.refusal.Refusal.TheVariants as refusal
 use Rattle.sbpl_promises.specs.Causes.{AreDemonstrated, ArePlanned, IsCause, IsEarlyCause, IsJobCause, IsTooLong}
-use Rattle.sbpl_promises.specs.Causes.{ReadsCourse, ReadsWorld, check_files, grid_files, grid_scope}
+use Rattle.sbpl_promises.specs.Causes.{ReadsUpdates, ReadsWorld, check_files, grid_files, grid_scope}
 use Rattle.sbpl_promises.specs.Causes.{lattice_files, plan_files, scope_of}
 use Rattle.sbpl_promises.specs.WorldFiles.{WorldFiles}
 use Rattle.sbpl_promises.specs.Texts.{Scope}
-use Rattle.sbpl_promises.specs.declared.course.Course.{Course}
+use Rattle.sbpl_promises.specs.declared.updates.Updates.{Updates}
 use Rattle.sbpl_promises.specs.sbpl_job.Jobs.{moves_in}
 use Rattle.sbpl_promises.specs.Intents.{BeginsAfter, Intent, Refused, Planned, Checked, Listed, Demonstrated}
 use Rattle.sbpl_promises.specs.Intents.{OutOfMemory, checked_status, checked_writes, demo_writes, end_writes}
@@ -51,7 +51,7 @@ use Rattle.sbpl_promises.specs.sbpl_report.Report.{incumbent_text}
 use Rattle.sbpl_promises.specs.Promises.{AreGood, AtJob, EndsJob, EndsRun, EndsWithoutMemory, GivesIntent, IsCheckedIn}
 use Rattle.sbpl_promises.specs.Promises.{IsCutShort, IsDone, IsFaultFound, IsFlawFound, IsNoCheck, IsOrFailed}
 use Rattle.sbpl_promises.specs.Promises.{IsOrUnwritten, IsRefused, IsStatus, IsWrittenFor, MayBeWritten, SomeRose}
-use Rattle.sbpl_promises.specs.Promises.{Tells, TellsChangeFault, TellsCourse, TellsEnvironment, TellsEnvironmentFault}
+use Rattle.sbpl_promises.specs.Promises.{Tells, TellsChangeFault, TellsUpdates, TellsEnvironment, TellsEnvironmentFault}
 use Rattle.sbpl_promises.specs.Promises.{TellsGrid, TellsGridFault, TellsPrimitiveFault, TellsPrimitives, TellsTooMuch}
 use Rattle.sbpl_promises.specs.Promises.{TellsWorld, by_job, by_memory, by_words, changes_of, grid_of, sources_of}
 use Rattle.sbpl_promises.specs.sbpl_report.Traces.{trace_text}
@@ -71,7 +71,7 @@ use Rattle.sbpl_laws.proofs.Converse.{environment_faulty_none, environment_long,
 use Rattle.sbpl_laws.proofs.Converse.{good_grid, grid_faulty, grid_faulty_none, grid_long, grid_long_none, grid_reads}
 use Rattle.sbpl_laws.proofs.Converse.{labels_refused, lattice_reads, no_memory, primitives_faulty}
 use Rattle.sbpl_laws.proofs.Converse.{primitives_faulty_none, primitives_good, primitives_long, primitives_long_none}
-use Rattle.sbpl_laws.proofs.Converse.{same_course, same_environment, same_grid, same_primitives, same_scope, told_is}
+use Rattle.sbpl_laws.proofs.Converse.{same_updates, same_environment, same_grid, same_primitives, same_scope, told_is}
 use Rattle.sbpl_laws.proofs.Converse.{too_dear_none, too_long_not_short, too_much_not_read, too_wide_none, world_good}
 
 -- ---- statuses
@@ -484,7 +484,7 @@ module _ (before after : DeskState) (old new : List Entry) where
     by_each j wanted (by_words is ends stays) names each = absurd (cc)
     by_each j wanted (by_memory at same stays) names each = inr (inr (inr at))
 
-    -- where the files stand for no world and course, a job is refused for one of them, or memory runs out
+    -- where the files stand for no world and updates, a job is refused for one of them, or memory runs out
     by_early : {W : Type 0} (j : Job) (f : WorldFiles W) (changes : Option (List ℕ)) (wanted : ℕ)
         → IsReadFrom j f changes → EndsRun named before after old new status → named ≡ Some j
         → ((r : Refusal) → IsEarlyCause held Failed f changes r → IsOrFailed wanted (refusal_status r))
@@ -495,7 +495,7 @@ module _ (before after : DeskState) (old new : List Entry) where
         by_cause : (r : Refusal) → IsJobCause held Failed j r → IsOrFailed wanted (refusal_status r)
         by_cause r cause = elim (reads.cause held Failed r cause) [
           | inl early ↦ refused r early
-          | inr (course, checks) ↦ absurd (none course)
+          | inr (updates, checks) ↦ absurd (none updates)
         ]
 
     -- and where they stand for no world, for a file of the world
@@ -602,8 +602,8 @@ module _ (before after : DeskState) (old new : List Entry) where
     served _ (Checked goal os end) plain refused gives = absurd gives
 
     pub run_complete : TextsAreClear → EndsRun named before after old new status
-        → (j : Job) (from : Sources) (s : Scope) (c : Course) → named ≡ Some j → sources_of j ≡ Some from
-        → AreGood held from (moves_in j) s → TellsCourse held (changes_of j) s c → IsNoCheck j → IsOrFailed 0 status
+        → (j : Job) (from : Sources) (s : Scope) (c : Updates) → named ≡ Some j → sources_of j ≡ Some from
+        → AreGood held from (moves_in j) s → TellsUpdates held (changes_of j) s c → IsNoCheck j → IsOrFailed 0 status
     run_complete clear ends j from s c names is good told plain =
         by_each j 0 ends names (λ i gives. served j i plain by_cause gives)
       where
@@ -612,7 +612,7 @@ module _ (before after : DeskState) (old new : List Entry) where
           | inl early ↦
               all_good clear held Failed (lattice_files from (moves_in j)) (changes_of j) s
               (good_files clear held Failed from (moves_in j) s good) c 0 told r early
-          | inr (course, checks) ↦ absurd (checks plain)
+          | inr (updates, checks) ↦ absurd (checks plain)
         ]
 
     -- ---- the same on a grid
@@ -651,8 +651,8 @@ module _ (before after : DeskState) (old new : List Entry) where
         (good_grid clear held Failed env w tells) f faulty)
 
     pub run_grid_complete : TextsAreClear → EndsRun named before after old new status
-        → (j : Job) (env : List ℕ) (w : GridWorld) (c : Course) → named ≡ Some j → grid_of j ≡ Some env
-        → TellsGrid held env w → TellsCourse held (changes_of j) (grid_scope w) c → IsNoCheck j → IsOrFailed 0 status
+        → (j : Job) (env : List ℕ) (w : GridWorld) (c : Updates) → named ≡ Some j → grid_of j ≡ Some env
+        → TellsGrid held env w → TellsUpdates held (changes_of j) (grid_scope w) c → IsNoCheck j → IsOrFailed 0 status
     run_grid_complete clear ends j env w c names is tells told plain =
         by_each j 0 ends names (λ i gives. served j i plain by_cause gives)
       where
@@ -661,66 +661,66 @@ module _ (before after : DeskState) (old new : List Entry) where
           | inl early ↦
               all_good clear held Failed (grid_files env) (changes_of j) (grid_scope w)
               (good_grid clear held Failed env w tells) c 0 told r early
-          | inr (course, checks) ↦ absurd (checks plain)
+          | inr (updates, checks) ↦ absurd (checks plain)
         ]
 
-    -- where the file stands for a world and a course, a check is refused for its file of labels alone
-    nav_check_refused : TextsAreClear → (n : NavCheckJob) (w : GridWorld) (course : Course) (wanted : ℕ)
-        → TellsGrid held n.env w → TellsCourse held n.changes (grid_scope w) course
+    -- where the file stands for a world and map updates, a check is refused for its file of labels alone
+    nav_check_refused : TextsAreClear → (n : NavCheckJob) (w : GridWorld) (updates : Updates) (wanted : ℕ)
+        → TellsGrid held n.env w → TellsUpdates held n.changes (grid_scope w) updates
         → (IsTooLong (held n.labels) → IsOrFailed wanted 8) → (r : Refusal) → IsJobCause held Failed (job.NavCheck n) r
         → IsOrFailed wanted (refusal_status r)
-    nav_check_refused clear n w course wanted tells told long r (inl cause) =
+    nav_check_refused clear n w updates wanted tells told long r (inl cause) =
         all_good clear held Failed (grid_files n.env) n.changes (grid_scope w)
-        (good_grid clear held Failed n.env w tells) course wanted told r cause
-    nav_check_refused clear n w course wanted tells told long r (inr cause) =
+        (good_grid clear held Failed n.env w tells) updates wanted told r cause
+    nav_check_refused clear n w updates wanted tells told long r (inr cause) =
         labels_refused held Failed (grid_files n.env) n.changes n.labels wanted r long cause
 
     nav_checked_alike : TextsAreClear → SectionsAreClear → OneMap
-        → (n : NavCheckJob) (w : GridWorld) (course : Course) (text : List ℕ) (goals : ℕ → ℕ) (os : List Outcome)
+        → (n : NavCheckJob) (w : GridWorld) (updates : Updates) (text : List ℕ) (goals : ℕ → ℕ) (os : List Outcome)
         (end : Option SectionStop) → end ≢ Some section.NoMemory → TellsGrid held n.env w
-        → TellsCourse held n.changes (grid_scope w) course
+        → TellsUpdates held n.changes (grid_scope w) updates
         → Tells (held n.labels) text
-        → IsCheckedIn IsHolding grid_site w course text goals os end
+        → IsCheckedIn IsHolding grid_site w updates text goals os end
         → ((r : Refusal) → IsJobCause held Failed (job.NavCheck n) r
         → IsOrFailed (checked_status end) (refusal_status r))
         → (i : Intent) → GivesIntent held Failed (job.NavCheck n) i → IsOrFailed (checked_status end) (intent_status i)
-    nav_checked_alike clear sections one n w course text goals os end some tells told held_text is refused
+    nav_checked_alike clear sections one n w updates text goals os end some tells told held_text is refused
         (Refused r) gives = refused r gives
-    nav_checked_alike clear sections one n w course text goals os end some tells told held_text is refused OutOfMemory
+    nav_checked_alike clear sections one n w updates text goals os end some tells told held_text is refused OutOfMemory
         gives = no_memory (checked_status end)
-    nav_checked_alike clear sections one n w course text goals os end some tells told held_text is refused
+    nav_checked_alike clear sections one n w updates text goals os end some tells told held_text is refused
         (Checked goal' os' end') gives =
         let near : gives.world ≡ w = same_grid clear held Failed n.env w gives.world tells gives.says in
-        let same : gives.course ≡ course =
-        same_course clear held n.changes (grid_scope w) course gives.course told
-        (subst (λ (v : GridWorld). ReadsCourse held n.changes (grid_scope v) gives.course) near gives.changes_say) in
+        let same : gives.updates ≡ updates =
+        same_updates clear held n.changes (grid_scope w) updates gives.updates told
+        (subst (λ (v : GridWorld). ReadsUpdates held n.changes (grid_scope v) gives.updates) near gives.changes_say) in
         let same_text : gives.text ≡ text = told_is (held n.labels) text gives.text held_text.held_bytes gives.read in
         checked_ends_alike grid_site AreOneGrid grids_alike false
-        (goes_alike grid_site AreOneGrid grids_alike false) sections one w gives.world course gives.course text
+        (goes_alike grid_site AreOneGrid grids_alike false) sections one w gives.world updates gives.updates text
         gives.text goals goal' os os' end end' near tells.is_world same same_text some is gives.in_world
-    nav_checked_alike clear sections one n w course text goals os end some tells told held_text is refused _ gives =
+    nav_checked_alike clear sections one n w updates text goals os end some tells told held_text is refused _ gives =
         absurd gives
 
     pub run_grid_checked : TextsAreClear → SectionsAreClear → OneMap → EndsRun named before after old new status
-        → (n : NavCheckJob) (w : GridWorld) (course : Course) (text : List ℕ) (goals : ℕ → ℕ) (os : List Outcome)
+        → (n : NavCheckJob) (w : GridWorld) (updates : Updates) (text : List ℕ) (goals : ℕ → ℕ) (os : List Outcome)
         (end : Option SectionStop) → named ≡ Some (job.NavCheck n) → TellsGrid held n.env w
-        → TellsCourse held n.changes (grid_scope w) course → Tells (held n.labels) text
-        → IsCheckedIn IsHolding grid_site w course text goals os end
+        → TellsUpdates held n.changes (grid_scope w) updates → Tells (held n.labels) text
+        → IsCheckedIn IsHolding grid_site w updates text goals os end
         → end ≢ Some section.NoMemory → IsOrFailed (checked_status end) status
-    run_grid_checked clear sections one ends n w course text goals os end names tells told held_text is some =
+    run_grid_checked clear sections one ends n w updates text goals os end names tells told held_text is some =
         let refused =
-        nav_check_refused clear n w course (checked_status end) tells told
+        nav_check_refused clear n w updates (checked_status end) tells told
         (λ long. absurd (too_long_not_short (held n.labels) text held_text long)) in
         by_each (job.NavCheck n) (checked_status end) ends names
-        (nav_checked_alike clear sections one n w course text goals os end some tells told held_text is refused)
+        (nav_checked_alike clear sections one n w updates text goals os end some tells told held_text is refused)
 
     pub run_grid_labels_long : TextsAreClear → EndsRun named before after old new status
-        → (n : NavCheckJob) (w : GridWorld) (course : Course) → named ≡ Some (job.NavCheck n) → TellsGrid held n.env w
-        → TellsCourse held n.changes (grid_scope w) course → TellsTooMuch (held n.labels) → IsOrFailed 8 status
-    run_grid_labels_long clear ends n w course names tells told much = by_each (job.NavCheck n) 8 ends names long_by
+        → (n : NavCheckJob) (w : GridWorld) (updates : Updates) → named ≡ Some (job.NavCheck n) → TellsGrid held n.env w
+        → TellsUpdates held n.changes (grid_scope w) updates → TellsTooMuch (held n.labels) → IsOrFailed 8 status
+    run_grid_labels_long clear ends n w updates names tells told much = by_each (job.NavCheck n) 8 ends names long_by
       where
         long_by : (i : Intent) → GivesIntent held Failed (job.NavCheck n) i → IsOrFailed 8 (intent_status i)
-        long_by (Refused r) gives = nav_check_refused clear n w course 8 tells told (λ long. inl refl) r gives
+        long_by (Refused r) gives = nav_check_refused clear n w updates 8 tells told (λ long. inl refl) r gives
         long_by (Checked goal os end) gives = absurd (too_much_not_read (held n.labels) gives.text much gives.read)
         long_by OutOfMemory gives = no_memory 8
         long_by _ gives = absurd gives
@@ -751,36 +751,36 @@ module _ (before after : DeskState) (old new : List Entry) where
     run_demonstrated (by_words is ends stays) d names = absurd (cc)
     run_demonstrated (by_memory at same stays) d names = inr (inr at)
 
-    -- where the files stand for a world and a course, a check is refused for its file of labels alone
-    check_refused : TextsAreClear → (c : CheckJob) (w : World) (course : Course) (wanted : ℕ)
-        → TellsWorld held c.sources w → TellsCourse held c.changes (scope_of c.back w) course
+    -- where the files stand for a world and map updates, a check is refused for its file of labels alone
+    check_refused : TextsAreClear → (c : CheckJob) (w : World) (updates : Updates) (wanted : ℕ)
+        → TellsWorld held c.sources w → TellsUpdates held c.changes (scope_of c.back w) updates
         → (IsTooLong (held c.labels) → IsOrFailed wanted 8) → (r : Refusal) → IsJobCause held Failed (job.Check c) r
         → IsOrFailed wanted (refusal_status r)
-    check_refused clear c w course wanted tells told long r (inl cause) =
+    check_refused clear c w updates wanted tells told long r (inl cause) =
         all_good clear held Failed (check_files c) c.changes (scope_of c.back w) (good_files clear held Failed c.sources
-        c.back (scope_of c.back w) (world_good clear held Failed c.sources c.back w tells)) course wanted told r cause
-    check_refused clear c w course wanted tells told long r (inr cause) =
+        c.back (scope_of c.back w) (world_good clear held Failed c.sources c.back w tells)) updates wanted told r cause
+    check_refused clear c w updates wanted tells told long r (inr cause) =
         labels_refused held Failed (check_files c) c.changes c.labels wanted r long cause
 
     -- how a check ends
     checked_alike : TextsAreClear → SectionsAreClear → OneMap → AlikeWorldsAreOneGraph
-        → (c : CheckJob) (w : World) (course : Course) (text : List ℕ) (goals : ℕ → ℕ) (os : List Outcome)
+        → (c : CheckJob) (w : World) (updates : Updates) (text : List ℕ) (goals : ℕ → ℕ) (os : List Outcome)
         (end : Option SectionStop) → end ≢ Some section.NoMemory → TellsWorld held c.sources w
-        → TellsCourse held c.changes (scope_of c.back w) course → Tells (held c.labels) text
-        → IsCheckedIn IsHolding (searched_on lattice_site c.back) w course text goals os end
+        → TellsUpdates held c.changes (scope_of c.back w) updates → Tells (held c.labels) text
+        → IsCheckedIn IsHolding (searched_on lattice_site c.back) w updates text goals os end
         → ((r : Refusal) → IsJobCause held Failed (job.Check c) r → IsOrFailed (checked_status end) (refusal_status r))
         → (i : Intent) → GivesIntent held Failed (job.Check c) i → IsOrFailed (checked_status end) (intent_status i)
-    checked_alike clear sections one graphs c w course text goals os end some tells told held_text is refused
+    checked_alike clear sections one graphs c w updates text goals os end some tells told held_text is refused
         (Refused r) gives = refused r gives
-    checked_alike clear sections one graphs c w course text goals os end some tells told held_text is refused
+    checked_alike clear sections one graphs c w updates text goals os end some tells told held_text is refused
         (Planned records all log broken) gives = absurd gives
-    checked_alike clear sections one graphs c w course text goals os end some tells told held_text is refused
+    checked_alike clear sections one graphs c w updates text goals os end some tells told held_text is refused
         (Listed v) gives = absurd gives
-    checked_alike clear sections one graphs c w course text goals os end some tells told held_text is refused
+    checked_alike clear sections one graphs c w updates text goals os end some tells told held_text is refused
         (Demonstrated v count records all log broken) gives = absurd gives
-    checked_alike clear sections one graphs c w course text goals os end some tells told held_text is refused
+    checked_alike clear sections one graphs c w updates text goals os end some tells told held_text is refused
         OutOfMemory gives = no_memory (checked_status end)
-    checked_alike clear sections one graphs c w course text goals os end some tells told held_text is refused
+    checked_alike clear sections one graphs c w updates text goals os end some tells told held_text is refused
         (Checked goal' os' end') gives =
         let v = gives.world in
         let good = world_good clear held Failed c.sources c.back w tells in
@@ -792,38 +792,38 @@ module _ (before after : DeskState) (old new : List Entry) where
         let scope = same_scope clear held c.sources c.back (scope_of c.back w) v good.scope gives.says in
         let map = ap (λ (s : Scope). s.map) scope in
         let radius = gives.says.sweeps.radius_is ∙ sym tells.says.sweeps.radius_is in
-        let same : gives.course ≡ course =
-        same_course clear held c.changes (scope_of c.back w) course gives.course told
-        (subst (λ (s : Scope). ReadsCourse held c.changes s gives.course) scope gives.changes_say) in
+        let same : gives.updates ≡ updates =
+        same_updates clear held c.changes (scope_of c.back w) updates gives.updates told
+        (subst (λ (s : Scope). ReadsUpdates held c.changes s gives.updates) scope gives.changes_say) in
         let same_text : gives.text ≡ text = told_is (held c.labels) text gives.text held_text.held_bytes gives.read in
         let near : AreAlikeWorlds w v = record { env = env; prims = prims; map = map; radius = radius } in
         let alike = lattices_alike graphs in
         checked_ends_alike lattice_site AreAlikeWorlds alike c.back (goes_alike lattice_site AreAlikeWorlds alike c.back)
-        sections one w v course gives.course text gives.text goals goal' os os' end end' (alike.back w v near)
+        sections one w v updates gives.updates text gives.text goals goal' os os' end end' (alike.back w v near)
         tells.is_world same same_text some is gives.in_world
 
     pub run_checked : TextsAreClear → SectionsAreClear → OneMap → AlikeWorldsAreOneGraph
         → EndsRun named before after old new status
-        → (c : CheckJob) (w : World) (course : Course) (text : List ℕ) (goals : ℕ → ℕ) (os : List Outcome)
+        → (c : CheckJob) (w : World) (updates : Updates) (text : List ℕ) (goals : ℕ → ℕ) (os : List Outcome)
         (end : Option SectionStop) → named ≡ Some (job.Check c) → TellsWorld held c.sources w
-        → TellsCourse held c.changes (scope_of c.back w) course → Tells (held c.labels) text
-        → IsCheckedIn IsHolding (searched_on lattice_site c.back) w course text goals os end
+        → TellsUpdates held c.changes (scope_of c.back w) updates → Tells (held c.labels) text
+        → IsCheckedIn IsHolding (searched_on lattice_site c.back) w updates text goals os end
         → end ≢ Some section.NoMemory → IsOrFailed (checked_status end) status
-    run_checked clear sections one alike ends c w course text goals os end names tells told held_text is some =
+    run_checked clear sections one alike ends c w updates text goals os end names tells told held_text is some =
         let refused =
-        check_refused clear c w course (checked_status end) tells told
+        check_refused clear c w updates (checked_status end) tells told
         (λ long. absurd (too_long_not_short (held c.labels) text held_text long)) in
         by_each (job.Check c) (checked_status end) ends names
-        (checked_alike clear sections one alike c w course text goals os end some tells told held_text is refused)
+        (checked_alike clear sections one alike c w updates text goals os end some tells told held_text is refused)
 
     -- a file of labels that is too long
     pub run_labels_long : TextsAreClear → EndsRun named before after old new status
-        → (c : CheckJob) (w : World) (course : Course) → named ≡ Some (job.Check c) → TellsWorld held c.sources w
-        → TellsCourse held c.changes (scope_of c.back w) course → TellsTooMuch (held c.labels) → IsOrFailed 8 status
-    run_labels_long clear ends c w course names tells told much = by_each (job.Check c) 8 ends names long_by
+        → (c : CheckJob) (w : World) (updates : Updates) → named ≡ Some (job.Check c) → TellsWorld held c.sources w
+        → TellsUpdates held c.changes (scope_of c.back w) updates → TellsTooMuch (held c.labels) → IsOrFailed 8 status
+    run_labels_long clear ends c w updates names tells told much = by_each (job.Check c) 8 ends names long_by
       where
         long_by : (i : Intent) → GivesIntent held Failed (job.Check c) i → IsOrFailed 8 (intent_status i)
-        long_by (Refused r) gives = check_refused clear c w course 8 tells told (λ long. inl refl) r gives
+        long_by (Refused r) gives = check_refused clear c w updates 8 tells told (λ long. inl refl) r gives
         long_by (Checked goal os end) gives = absurd (too_much_not_read (held c.labels) gives.text much gives.read)
         long_by OutOfMemory gives = no_memory 8
         long_by _ gives = absurd gives

@@ -25,7 +25,7 @@ pub record AreBegun (count : ℕ) (a b : Marks) (xs ys : List ℕ) : Type 0 wher
 module _ {W : Type 0} (on : Site W) (Alike : W → W → Type 0) (alike : AreAlike on Alike) where
   -- alike worlds have one set of states that a change touches
   touched_on : (back : Bool) → GoesAlike on Alike back → (w v : W) (now : CellMap) → Alike w v
-      → on.wording.told w ≡ on.wording.told v → (t : ℕ)
+      → on.reporting.told w ≡ on.reporting.told v → (t : ℕ)
       → IsAffected (searched_on on back).network (searched_on on back).cells end.Head w now t
       → IsAffected (searched_on on back).network (searched_on on back).cells end.Head v now t
   touched_on back goes w v now a same t is =
@@ -51,9 +51,9 @@ module _ {W : Type 0} (on : Site W) (Alike : W → W → Type 0) (alike : AreAli
     -- start's with no back arc, and a map that gives one graph
     pub record IsCarried (b : Carried) : Type 0 where
       pub made : on.cells.is_made (on.cells.over w b.map)
-      pub states : states_of b.labels ≡ (on.wording.told (on.cells.over w b.map)).states
+      pub states : states_of b.labels ≡ (on.reporting.told (on.cells.over w b.map)).states
       pub no_arc : back_of b.labels b.labels.start ≡ None
-      pub graph : on.wording.told (on.cells.over w b.map) ≡ on.wording.told (on.cells.over v b.map)
+      pub graph : on.reporting.told (on.cells.over w b.map) ≡ on.reporting.told (on.cells.over v b.map)
 
     abbrev pub AreCarried : Option Carried → Type 0
     AreCarried None = Unit {0}
@@ -61,12 +61,12 @@ module _ {W : Type 0} (on : Site W) (Alike : W → W → Type 0) (alike : AreAli
 
     module _ (initial : InitialLabelsAreOne) where
       initial_begun : (m : CellMap) (start : ℕ) (x y : Marks) (xs ys : List ℕ)
-          → on.wording.told (on.cells.over w m) ≡ on.wording.told (on.cells.over v m)
-          → AreInitial x (on.wording.told (on.cells.over w m)).states start × (xs ≡ [])
-          → AreInitial y (on.wording.told (on.cells.over v m)).states start × (ys ≡ [])
-          → AreBegun (on.wording.told (on.cells.over w m)).states x y xs ys
+          → on.reporting.told (on.cells.over w m) ≡ on.reporting.told (on.cells.over v m)
+          → AreInitial x (on.reporting.told (on.cells.over w m)).states start × (xs ≡ [])
+          → AreInitial y (on.reporting.told (on.cells.over v m)).states start × (ys ≡ [])
+          → AreBegun (on.reporting.told (on.cells.over w m)).states x y xs ys
       initial_begun m start x y xs ys same p q =
-          let own : AreInitial y (on.wording.told (on.cells.over w m)).states start =
+          let own : AreInitial y (on.reporting.told (on.cells.over w m)).states start =
           subst (λ (n : Network). AreInitial y n.states start) (sym same) q.0 in
           record {
             same = initial x y _ start p.0 own;
@@ -75,19 +75,19 @@ module _ {W : Type 0} (on : Site W) (Alike : W → W → Type 0) (alike : AreAli
             no_arc = p.0.no_arc x.start;
           }
 
-      module _ {Note : Type 0} (means : Meaning Note) (law : AreBeginningsDetermined means) (back : Bool)
+      module _ {Action : Type 0} (means : Meaning Action) (law : AreBeginningsDetermined means) (back : Bool)
           (goes : GoesAlike on Alike back) where
         abbrev over : Site W
         over = searched_on on back
 
         with_begun : (m : CellMap) (left : Carried) (x y : Marks) (xs ys : List ℕ)
             → on.cells.is_made (on.cells.over w m)
-            → on.wording.told (on.cells.over w m) ≡ on.wording.told (on.cells.over v m) → IsCarried left
+            → on.reporting.told (on.cells.over w m) ≡ on.reporting.told (on.cells.over v m) → IsCarried left
             → BeginsWith means over.network over.cells (on.cells.over (on.cells.over w m) left.map)
             (on.cells.over w m) left.labels x xs
             → BeginsWith means over.network over.cells (on.cells.over (on.cells.over v m) left.map)
             (on.cells.over v m) left.labels y ys
-            → AreBegun (on.wording.told (on.cells.over w m)).states x y xs ys
+            → AreBegun (on.reporting.told (on.cells.over w m)).states x y xs ys
         with_begun m left x y xs ys made same carried p q =
             let here : W = on.cells.over w m in
             let there : W = on.cells.over v m in
@@ -97,9 +97,9 @@ module _ {W : Type 0} (on : Site W) (Alike : W → W → Type 0) (alike : AreAli
             (sym (goes.network here there same)) q.begun in
             let old : Alike (on.cells.over here left.map) (on.cells.over there left.map) =
             alike.over here there left.map (alike.over w v m a) in
-            let graph : on.wording.told (on.cells.over here left.map) ≡ on.wording.told (on.cells.over there left.map) =
-            subst (λ (u : W). on.wording.told u ≡ on.wording.told (on.cells.over there left.map)) (sym (alike.again w m left.map))
-            (subst (λ (u : W). on.wording.told (on.cells.over w left.map) ≡ on.wording.told u)
+            let graph : on.reporting.told (on.cells.over here left.map) ≡ on.reporting.told (on.cells.over there left.map) =
+            subst (λ (u : W). on.reporting.told u ≡ on.reporting.told (on.cells.over there left.map)) (sym (alike.again w m left.map))
+            (subst (λ (u : W). on.reporting.told (on.cells.over w left.map) ≡ on.reporting.told u)
             (sym (alike.again v m left.map)) carried.graph)
             in
             let maps : on.cells.map here ≡ on.cells.map there = alike.map here there (alike.over w v m a) in
@@ -123,12 +123,12 @@ module _ {W : Type 0} (on : Site W) (Alike : W → W → Type 0) (alike : AreAli
             }
 
         pub one_begun : (m : CellMap) (from : ℕ) (before : Option Carried) (x y : Marks) (xs ys : List ℕ)
-            → on.cells.is_made (on.cells.over w m) → on.wording.told (on.cells.over w m) ≡ on.wording.told (on.cells.over v m)
+            → on.cells.is_made (on.cells.over w m) → on.reporting.told (on.cells.over w m) ≡ on.reporting.told (on.cells.over v m)
             → AreCarried before → Begins means over (on.cells.over w m) from before x xs
             → Begins means over (on.cells.over v m) from before y ys
-            → AreBegun (on.wording.told (on.cells.over w m)).states x y xs ys
+            → AreBegun (on.reporting.told (on.cells.over w m)).states x y xs ys
         one_begun m from None x y xs ys made same carried p q =
-            let count : (w : W) → (over.network w).states ≡ (on.wording.told w).states = goes.states in
+            let count : (w : W) → (over.network w).states ≡ (on.reporting.told w).states = goes.states in
             initial_begun m from x y xs ys same
             (subst (λ (k : ℕ). AreInitial x k from) (count (on.cells.over w m)) p.0, p.1)
             (subst (λ (k : ℕ). AreInitial y k from) (count (on.cells.over v m)) q.0, q.1)

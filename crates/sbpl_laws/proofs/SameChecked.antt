@@ -13,9 +13,9 @@ use Rattle.sbpl_promises.specs.sbpl_cert.Text.{HasFault}
 use Rattle.sbpl_promises.specs.sbpl_cert.Versions.{claim_by, outcome_of}
 use Rattle.sbpl_promises.specs.declared.section_stop.SectionStop.{SectionStop}
 use Rattle.sbpl_promises.specs.declared.section_stop.SectionStop.TheVariants as section
-use Rattle.sbpl_promises.specs.Causes.{ReadsCourse}
+use Rattle.sbpl_promises.specs.Causes.{ReadsUpdates}
 use Rattle.sbpl_promises.specs.Texts.{Scope}
-use Rattle.sbpl_promises.specs.declared.course.Course.{Course}
+use Rattle.sbpl_promises.specs.declared.updates.Updates.{Updates}
 use Rattle.sbpl_promises.specs.Checked.{AreChecked, Case, Ground, IsFlawed, IsHolding, IsShownHolding, IsStoppedIn}
 use Rattle.sbpl_promises.specs.Checked.{IsTrailingAt, case_of, from_in, to_in}
 use Rattle.sbpl_promises.specs.Clear.{SectionsAreClear, TextsAreClear}
@@ -29,7 +29,7 @@ use Rattle.sbpl_laws.proofs.OneEnding.{AreOneGround, OneMap, case_in, checked_on
 use Rattle.sbpl_laws.proofs.OneEnding.{readable, same_case, same_left, trailing_none}
 use Rattle.sbpl_laws.proofs.AlikeSites.{AreAlike, GoesAlike, goes_alike, same_starts}
 use Rattle.sbpl_promises.specs.WorldFiles.{WorldFiles}
-use Rattle.sbpl_laws.proofs.SamePlanned.{StandForOne, one_course, read_once}
+use Rattle.sbpl_laws.proofs.SamePlanned.{StandForOne, updates_once, read_once}
 
 -- the first checking goes as far as the second: both are the same,
 -- or memory ran out in it after the first few sections that hold
@@ -170,38 +170,38 @@ writes_as_far goals plan os ps a b (inr (out, (rest, parted))) =
 
 -- ---- the labels of a job
 
--- in alike worlds and over one course, the checking of one text goes as far, of searches to the same goals
+-- in alike worlds and over the same map updates, the checking of one text goes as far, of searches to the same goals
 pub checks_as_far : {W : Type 0} (on : Site W) (Alike : W → W → Type 0) (alike : AreAlike on Alike) (back : Bool)
     (goes : GoesAlike on Alike back) → SectionsAreClear → OneMap
-    → (w v : W) (course also : Course) (text same_text : List ℕ) (goals others : ℕ → ℕ) (os ps : List Outcome)
+    → (w v : W) (updates also : Updates) (text same_text : List ℕ) (goals others : ℕ → ℕ) (os ps : List Outcome)
     (a b : Option SectionStop)
-    → Alike v w → on.cells.is_made w → also ≡ course → same_text ≡ text → b ≢ Some section.NoMemory
-    → IsCheckedIn IsShownHolding (searched_on on back) w course text goals os a
+    → Alike v w → on.cells.is_made w → also ≡ updates → same_text ≡ text → b ≢ Some section.NoMemory
+    → IsCheckedIn IsShownHolding (searched_on on back) w updates text goals os a
     → IsCheckedIn IsShownHolding (searched_on on back) v also same_text others ps b → (goals ≡ others) × WritesAsFar goals 0 os ps a b
-checks_as_far on Alike alike back goes sections one w v course also text same_text goals others os ps a b near made
-    courses texts some x y =
+checks_as_far on Alike alike back goes sections one w v updates also text same_text goals others os ps a b near made
+    all_updates texts some x y =
     let from : y.start ≡ x.start = alike.starts v w y.start x.start near y.start_is x.start_is in
     let to : y.goal ≡ x.goal = alike.ends v w y.goal x.goal near y.goal_is x.goal_is in
-    let mine : ℕ → ℕ = start_after on.wording w x.start course.moves in
-    let starts : start_after on.wording v y.start also.moves ≡ mine =
-    same_starts on.wording v w y.start x.start also.moves course.moves (alike.state v w near) from
-    (ap (λ (c : Course). c.moves) courses) in
-    let batches : also.batches ≡ course.batches = ap (λ (c : Course). c.batches) courses in
+    let mine : ℕ → ℕ = start_after on.reporting w x.start updates.moves in
+    let starts : start_after on.reporting v y.start also.moves ≡ mine =
+    same_starts on.reporting v w y.start x.start also.moves updates.moves (alike.state v w near) from
+    (ap (λ (c : Updates). c.moves) all_updates) in
+    let batches : also.batches ≡ updates.batches = ap (λ (c : Updates). c.batches) all_updates in
     let there =
-    same_case (searched_on on back) v course.batches also.batches (start_after on.wording v y.start also.moves) mine y.goal x.goal
+    same_case (searched_on on back) v updates.batches also.batches (start_after on.reporting v y.start also.moves) mine y.goal x.goal
     same_text text ps b batches starts to texts y.checked in
-    let c : Case (searched_on on back) = case_in (searched_on on back) w course.batches mine x.goal in
+    let c : Case (searched_on on back) = case_in (searched_on on back) w updates.batches mine x.goal in
     let q =
-    checked_on on Alike alike back goes v w near made course.batches mine x.goal (suc (length course.batches)) 0
+    checked_on on Alike alike back goes v w near made updates.batches mine x.goal (suc (length updates.batches)) 0
     (start_at text 0) ps b there in
     let p =
-    checked_on on Alike alike back goes w w (alike.same w) made course.batches mine x.goal (suc (length course.batches)) 0
+    checked_on on Alike alike back goes w w (alike.same w) made updates.batches mine x.goal (suc (length updates.batches)) 0
     (start_at text 0) os a x.checked in
     let same : to_in (case_of (searched_on on back) v also y.start y.goal)
-    ≡ to_in (case_of (searched_on on back) w course x.start x.goal) =
+    ≡ to_in (case_of (searched_on on back) w updates x.start x.goal) =
     λ i k. to_of back (starts i k) (to i) in (
       x.goals_are ∙ sym same ∙ sym y.goals_are,
-      writes_as_far goals 0 os ps a b (goes_as_far on Alike alike back goes sections one c (suc (length course.batches)) 0
+      writes_as_far goals 0 os ps a b (goes_as_far on Alike alike back goes sections one c (suc (length updates.batches)) 0
           (start_at text 0) os ps a b some p q),
     )
 
@@ -216,11 +216,11 @@ check_as_far clear sections one held f Alike alike stand changes labels goals ot
     let w = x.world in
     let v = y.world in
     let near = stand.one w v x.says y.says in
-    let read : ReadsCourse held changes (f.scope w) y.course =
-    subst (λ (s : Scope). ReadsCourse held changes s y.course) (stand.scope w v near) y.changes_say in
-    let course : y.course ≡ x.course =
-    sym (one_course clear held changes (f.scope w) x.course y.course told_changes x.changes_say read) in
+    let read : ReadsUpdates held changes (f.scope w) y.updates =
+    subst (λ (s : Scope). ReadsUpdates held changes s y.updates) (stand.scope w v near) y.changes_say in
+    let updates : y.updates ≡ x.updates =
+    sym (updates_once clear held changes (f.scope w) x.updates y.updates told_changes x.changes_say read) in
     let text : y.text ≡ x.text = read_once (held labels) y.text x.text told_labels y.read x.read in
     checks_as_far f.on Alike alike f.moves (goes_alike f.on Alike alike f.moves) sections one w
-    v x.course y.course x.text y.text goals others os ps a b (alike.back w v near) x.is_world course text
+    v x.updates y.updates x.text y.text goals others os ps a b (alike.back w v near) x.is_world updates text
     some x.in_world y.in_world

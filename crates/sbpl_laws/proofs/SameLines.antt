@@ -52,10 +52,10 @@ pub few_demonstrated : FewAreFirst lattice_site AreAlikeWorlds
     → AreDemonstrated d v cs us true log also
     → (rest : List PlanRecord) × (us ≡ rs ++ rest)
 few_demonstrated first d w v bs cs log rs us all broken also x y =
-    let course : bs ≡ cs = x.changes ∙ sym y.changes in
+    let updates : bs ≡ cs = x.changes ∙ sym y.changes in
     let plans : ArePlans lattice_site w (still cs) demo_search no_outputs rs all log broken =
     subst (λ (l : List (List change.Write)). ArePlans lattice_site w (still l) demo_search no_outputs rs all log broken)
-    course x.plans in
+    updates x.plans in
     first w v (still cs) demo_search no_outputs log rs us all broken also refl
     (same_drawn d w v x.drawn y.drawn) plans y.plans
 
@@ -64,10 +64,10 @@ pub one_demonstrated : RecordsAreOne lattice_site AreAlikeWorlds
     (broken also : List Found) → AreDemonstrated d w bs rs true log broken
     → AreDemonstrated d v cs us true log also → rs ≡ us
 one_demonstrated one d w v bs cs log rs us broken also x y =
-    let course : bs ≡ cs = x.changes ∙ sym y.changes in
+    let updates : bs ≡ cs = x.changes ∙ sym y.changes in
     let plans : ArePlans lattice_site w (still cs) demo_search no_outputs rs true log broken =
     subst (λ (l : List (List change.Write)).
-    ArePlans lattice_site w (still l) demo_search no_outputs rs true log broken) course x.plans in
+    ArePlans lattice_site w (still l) demo_search no_outputs rs true log broken) updates x.plans in
     one w v (still cs) demo_search no_outputs log rs us broken also refl
     (same_drawn d w v x.drawn y.drawn) plans y.plans
 

@@ -9,9 +9,9 @@ use Rattle.sbpl_promises.specs.sbpl_job.declared.job.SearchJob.{SearchJob}
 use Rattle.sbpl_promises.specs.sbpl_job.declared.job.Sources.{Sources}
 use Rattle.sbpl_promises.specs.sbpl_report.declared.record.PlanRecord.{PlanRecord}
 use Rattle.sbpl_promises.specs.Asked.{is_determined}
-use Rattle.sbpl_promises.specs.Causes.{ArePlanned, IsReadText, ReadsCourse, ReadsWorld, grid_files}
+use Rattle.sbpl_promises.specs.Causes.{ArePlanned, IsReadText, ReadsUpdates, ReadsWorld, grid_files}
 use Rattle.sbpl_promises.specs.Causes.{grid_scope, lattice_files, scope_of}
-use Rattle.sbpl_promises.specs.declared.course.Course.{Course}
+use Rattle.sbpl_promises.specs.declared.updates.Updates.{Updates}
 use Rattle.sbpl_promises.specs.Determined.{AreAlikeWorlds, FewAreFirst, RecordsAreOne}
 use Rattle.sbpl_promises.specs.sbpl_plan.declared.found.Found.{Found}
 use Rattle.sbpl_promises.specs.Headline.{ArePlans}
@@ -64,11 +64,11 @@ module _ (clear : TextsAreClear) (held : Told) where
         radius = y.sweeps.radius_is ∙ sym x.sweeps.radius_is;
       }
 
-  -- and for one course
-  pub one_course : (changes : Option (List ℕ)) (s : Scope) (c d : Course) → IfSome changes (λ name. IsSome (held name))
-      → ReadsCourse held changes s c → ReadsCourse held changes s d → c ≡ d
-  one_course None s c d told x y = x ∙ sym y
-  one_course (Some name) s c d told x y =
+  -- and for the same map updates
+  pub updates_once : (changes : Option (List ℕ)) (s : Scope) (c d : Updates) → IfSome changes (λ name. IsSome (held name))
+      → ReadsUpdates held changes s c → ReadsUpdates held changes s d → c ≡ d
+  updates_once None s c d told x y = x ∙ sym y
+  updates_once (Some name) s c d told x y =
       let text : y.0 ≡ x.0 = read_once (held name) y.0 x.0 told y.1 x.1 in
       let own : IsChangeText s x.0 d = subst (λ (t : List ℕ). IsChangeText s t d) text y.2 in
       clear.changes s x.0 c d x.2 own
@@ -100,13 +100,13 @@ module _ (clear : TextsAreClear) (held : Told) {W : Type 0} (f : WorldFiles W) (
       → ArePlanned held f changes search outputs us true log also → (rest : List PlanRecord) × (us ≡ rs ++ rest)
   few_planned first changes search outputs log rs us all broken also told_changes determined x y =
       let alike = stand.one x.world y.world x.says y.says in
-      let read : ReadsCourse held changes (f.scope x.world) y.course =
-      subst (λ (s : Scope). ReadsCourse held changes s y.course) (stand.scope x.world y.world alike) y.changes_say in
-      let course : x.course ≡ y.course =
-      one_course clear held changes (f.scope x.world) x.course y.course told_changes x.changes_say read in
-      let plans : ArePlans f.on y.world x.course search outputs us true log also =
-      subst (λ (c : Course). ArePlans f.on y.world c search outputs us true log also) (sym course) y.plans in
-      first x.world y.world x.course search outputs log rs us all broken also determined alike x.plans plans
+      let read : ReadsUpdates held changes (f.scope x.world) y.updates =
+      subst (λ (s : Scope). ReadsUpdates held changes s y.updates) (stand.scope x.world y.world alike) y.changes_say in
+      let updates : x.updates ≡ y.updates =
+      updates_once clear held changes (f.scope x.world) x.updates y.updates told_changes x.changes_say read in
+      let plans : ArePlans f.on y.world x.updates search outputs us true log also =
+      subst (λ (c : Updates). ArePlans f.on y.world c search outputs us true log also) (sym updates) y.plans in
+      first x.world y.world x.updates search outputs log rs us all broken also determined alike x.plans plans
 
   pub one_planned : RecordsAreOne f.on Alike
       → (changes : Option (List ℕ)) (search : SearchJob) (outputs : Outputs) (log : List Entry)
@@ -115,13 +115,13 @@ module _ (clear : TextsAreClear) (held : Told) {W : Type 0} (f : WorldFiles W) (
       → ArePlanned held f changes search outputs us true log also → rs ≡ us
   one_planned one changes search outputs log rs us broken also told_changes determined x y =
       let alike = stand.one x.world y.world x.says y.says in
-      let read : ReadsCourse held changes (f.scope x.world) y.course =
-      subst (λ (s : Scope). ReadsCourse held changes s y.course) (stand.scope x.world y.world alike) y.changes_say in
-      let course : x.course ≡ y.course =
-      one_course clear held changes (f.scope x.world) x.course y.course told_changes x.changes_say read in
-      let plans : ArePlans f.on y.world x.course search outputs us true log also =
-      subst (λ (c : Course). ArePlans f.on y.world c search outputs us true log also) (sym course) y.plans in
-      one x.world y.world x.course search outputs log rs us broken also determined alike x.plans plans
+      let read : ReadsUpdates held changes (f.scope x.world) y.updates =
+      subst (λ (s : Scope). ReadsUpdates held changes s y.updates) (stand.scope x.world y.world alike) y.changes_say in
+      let updates : x.updates ≡ y.updates =
+      updates_once clear held changes (f.scope x.world) x.updates y.updates told_changes x.changes_say read in
+      let plans : ArePlans f.on y.world x.updates search outputs us true log also =
+      subst (λ (c : Updates). ArePlans f.on y.world c search outputs us true log also) (sym updates) y.plans in
+      one x.world y.world x.updates search outputs log rs us broken also determined alike x.plans plans
 
 -- those of a lattice do
 pub lattices_stand_for_one : (clear : TextsAreClear) (held : Told) (from : Sources) (moving : Bool)

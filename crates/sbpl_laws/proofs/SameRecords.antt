@@ -30,7 +30,7 @@ use Rattle.sbpl_promises.specs.sbpl_adstar.Planner.{adstar}
 use Rattle.sbpl_promises.specs.sbpl_job.declared.job.Planner.{Planner}
 use Rattle.sbpl_promises.specs.sbpl_job.declared.job.Planner.TheVariants as planner
 use Rattle.sbpl_promises.specs.sbpl_plan.declared.ask.Ask.{Ask}
-use Rattle.sbpl_promises.specs.sbpl_plan.declared.passes.Pass.{Pass}
+use Rattle.sbpl_promises.specs.sbpl_plan.declared.passes.PassRecord.{PassRecord}
 use Rattle.sbpl_promises.specs.sbpl_plan.declared.result.FoundPath.{FoundPath}
 use Rattle.sbpl_promises.specs.sbpl_plan.declared.result.Outcome.{Outcome}
 use Rattle.sbpl_promises.specs.sbpl_plan.declared.result.Outcome.TheVariants as outcome
@@ -43,7 +43,7 @@ use Rattle.sbpl_promises.specs.sbpl_job.declared.job.SearchJob.{SearchJob}
 use Rattle.sbpl_promises.specs.sbpl_report.declared.record.PathStep.{PathStep}
 use Rattle.sbpl_promises.specs.sbpl_report.declared.record.PathRecord.{PathRecord}
 use Rattle.sbpl_promises.specs.sbpl_report.declared.record.PlanRecord.{PlanRecord}
-use Rattle.sbpl_promises.specs.Asked.{Known, Search, ask_of, from_by, is_determined, known, known_by, search_of, to_by}
+use Rattle.sbpl_promises.specs.Asked.{PlannerOn, Search, ask_of, from_by, is_determined, planner_for, planner_on, search_of, to_by}
 use Rattle.sbpl_promises.specs.Sites.{Leads, Site, searched_on, start_after}
 use Rattle.sbpl_promises.specs.sbpl_job.Jobs.{may_move}
 use Rattle.sbpl_promises.specs.Headline.{AreRecords, AreSteps, Carried, IsMarked, IsPlanOf, IsSearched, IsTurned}
@@ -61,7 +61,7 @@ use Rattle.sbpl_laws.proofs.SameBegun.{AreCarried, one_begun}
 
 -- the steps of the same arcs are the same
 module _ {W : Type 0} (on : Site W) (Alike : W → W → Type 0) (alike : AreAlike on Alike) (back : Bool) (w v : W)
-    (a : Alike w v) (same : on.wording.told w ≡ on.wording.told v) where
+    (a : Alike w v) (same : on.reporting.told w ≡ on.reporting.told v) where
   one_steps : (s u : ℕ) → s ≡ u → (arcs : List ℕ) (xs ys : List PathStep) → AreSteps on w s arcs xs
       → AreSteps on v u arcs ys → xs ≡ ys
   one_steps s u at [] [] [] left right = refl
@@ -72,10 +72,10 @@ module _ {W : Type 0} (on : Site W) (Alike : W → W → Type 0) (alike : AreAli
   one_steps s u at (k ∷ ks) (x ∷ xs) (y ∷ ys) left right =
       let own : AreSteps on v s (k ∷ ks) (y ∷ ys) =
       subst (λ (z : ℕ). AreSteps on v z (k ∷ ks) (y ∷ ys)) (sym at) right in
-      let head : (on.wording.told w).head s k ≡ Some own.0 = ap (λ (n : Network). n.head s k) same ∙ own.1 in
+      let head : (on.reporting.told w).head s k ≡ Some own.0 = ap (λ (n : Network). n.head s k) same ∙ own.1 in
       let target : left.0 ≡ own.0 = same_Some left.0 own.0 (sym left.1 ∙ head) in
       let first : x ≡ y =
-      alike.step w v s k left.0 x y a left.2 (subst (λ (t : ℕ). on.wording.step v s k t y) (sym target) own.2) in
+      alike.step w v s k left.0 x y a left.2 (subst (λ (t : ℕ). on.reporting.step v s k t y) (sym target) own.2) in
       let rest = one_steps left.0 own.0 target ks xs ys left.3 own.3 in
       λ i. first i ∷ rest i
 
@@ -86,7 +86,7 @@ module _ {W : Type 0} (on : Site W) (Alike : W → W → Type 0) (alike : AreAli
       let way : x.arcs ≡ y.arcs = told.0 ∙ sym also.0 in
       let price : x.cost ≡ y.cost = told.1 ∙ sym also.1 in
       let limit : x.bound ≡ y.bound = told.2 ∙ sym also.2 in
-      let from : x.start ≡ y.start = joins.from ∙ alike.spot w v start a ∙ sym joins'.from in
+      let from : x.start ≡ y.start = joins.from ∙ alike.report_pose w v start a ∙ sym joins'.from in
       let own : AreSteps on v start x.arcs y.steps =
       subst (λ (arcs : List ℕ). AreSteps on v start arcs y.steps) (sym way) joins'.steps in
       let steps = one_steps start start refl x.arcs x.steps y.steps joins.steps own in
@@ -214,39 +214,39 @@ record StaysPlaced (old new : Marks) : Type 0 where
   states : states_of new ≡ states_of old
   no_arc : back_of old old.start ≡ None → back_of new new.start ≡ None
 
-passes_placed : {Note : Type 0} (means : Meaning Note) → AreDetermined means
-    → (q : Inquiry) (ps : List (Pass Note)) (eps : ℕ) (old new : Marks) (spent : Bool)
+passes_placed : {Action : Type 0} (means : Meaning Action) → AreDetermined means
+    → (q : Inquiry) (ps : List (PassRecord Action)) (eps : ℕ) (old new : Marks) (spent : Bool)
     → ArePasses means q eps old ps new spent → StaysPlaced old new
 passes_placed means law q [] eps old new spent made = absurd made
 passes_placed means law q (p ∷ ps) eps old new spent (inl made) = record {
-  start = law.start (query_at q eps) old new made.1.notes made.1.leads;
-  states = law.states (query_at q eps) old new made.1.notes made.1.leads;
-  no_arc = law.no_arc (query_at q eps) old new made.1.notes made.1.leads;
+  start = law.start (query_at q eps) old new made.1.actions made.1.leads;
+  states = law.states (query_at q eps) old new made.1.actions made.1.leads;
+  no_arc = law.no_arc (query_at q eps) old new made.1.actions made.1.leads;
 }
 passes_placed means law q (p ∷ ps) eps old new spent (inr made) =
     let rest = passes_placed means law q ps (lowered q.ask.step eps) made.0 new spent made.3 in
     record {
-      start = rest.start ∙ law.start (query_at q eps) old made.0 made.1.notes made.1.leads;
-      states = rest.states ∙ law.states (query_at q eps) old made.0 made.1.notes made.1.leads;
-      no_arc = λ none. rest.no_arc (law.no_arc (query_at q eps) old made.0 made.1.notes made.1.leads none);
+      start = rest.start ∙ law.start (query_at q eps) old made.0 made.1.actions made.1.leads;
+      states = rest.states ∙ law.states (query_at q eps) old made.0 made.1.actions made.1.leads;
+      no_arc = λ none. rest.no_arc (law.no_arc (query_at q eps) old made.0 made.1.actions made.1.leads none);
     }
 
 -- passes that are told expanded as much
-pub expansions_traced : {Note : Type 0} (line : Note → TraceLine) (ps : List (Pass Note))
+pub expansions_traced : {Action : Type 0} (line : Action → TraceLine) (ps : List (PassRecord Action))
     → expansions (map (traced_pass line) ps) ≡ expansions ps
 expansions_traced line [] = refl
 expansions_traced line (p ∷ ps) = ap (λ (n : ℕ). p.expanded + n) (expansions_traced line ps)
 
-as_many : {W : Type 0} {by : Known W} {w : W} {how : SearchJob} {outputs : Outputs} {start goal : ℕ}
+as_many : {W : Type 0} {by : PlannerOn W} {w : W} {how : SearchJob} {outputs : Outputs} {start goal : ℕ}
     {before : Option Carried} {carried : Carried} {r : PlanRecord}
-    → (x : IsSearched by w how outputs start goal before carried r) → expansions r.passes ≡ expansions x.notes
-as_many {W} {by} x = ap expansions x.lines ∙ expansions_traced by.line x.notes
+    → (x : IsSearched by w how outputs start goal before carried r) → expansions r.passes ≡ expansions x.actions
+as_many {W} {by} x = ap expansions x.lines ∙ expansions_traced by.line x.actions
 
 -- what a plan expanded is within its budget and what the run had left
-within_room : {W : Type 0} {by : Known W} {w : W} {how : SearchJob} {outputs : Outputs} {start goal : ℕ}
+within_room : {W : Type 0} {by : PlannerOn W} {w : W} {how : SearchJob} {outputs : Outputs} {start goal : ℕ}
     {before : Option Carried} {carried : Carried} {r : PlanRecord}
     → (x : IsSearched by w how outputs start goal before carried r)
-    → AreWithin how.budget (expanded_before before) x.notes x.spent
+    → AreWithin how.budget (expanded_before before) x.actions x.spent
 within_room {W} {by} {w} {how} {outputs} {start} {goal} {before} {carried} {r} x = record {
   of_plan = omega (arith, x.within_budget, x.expanded, as_many x);
   of_run = omega (arith, x.within_run, x.counted, as_many x);
@@ -264,7 +264,7 @@ pub record AreOneRecord (count : ℕ) (carried other : Carried) (r u : PlanRecor
   pub no_arc : back_of carried.labels carried.labels.start ≡ None
 
 -- what is known of a planner whose plans are determined
-pub record IsPlannerDetermined {Note : Type 0} (means : Meaning Note) : Type 0 where
+pub record IsPlannerDetermined {Action : Type 0} (means : Meaning Action) : Type 0 where
   pub passes : AreDetermined means
   pub beginnings : AreBeginningsDetermined means
   pub plans : PassesAreOne means
@@ -274,24 +274,24 @@ module _ {W : Type 0} (on : Site W) (Alike : W → W → Type 0) (alike : AreAli
     (initial : InitialLabelsAreOne) (one_result : OutcomesAreOne) (cut_one : CutRowsAreOne) (w v : W)
     (both_alike : Alike w v) where
   -- the planner as the program knows it at the site
-  abbrev by : Known W
-  by = known_by (searched_on on back) search.means search.line
+  abbrev by : PlannerOn W
+  by = planner_on (searched_on on back) search.means search.line
 
   one_record : (m : CellMap) (how : SearchJob) (outputs : Outputs) (start goal : ℕ) (log : List Entry)
       (before : Option Carried) (carried other : Carried) (r u : PlanRecord)
-      → on.cells.is_made (on.cells.over w m) → on.wording.told (on.cells.over w m) ≡ on.wording.told (on.cells.over v m)
+      → on.cells.is_made (on.cells.over w m) → on.reporting.told (on.cells.over w m) ≡ on.reporting.told (on.cells.over v m)
       → AreCarried on Alike alike w v both_alike before → r.plan ≡ u.plan
       → Joins by.on (on.cells.over w m) start goal r.outcome → Joins by.on (on.cells.over v m) start goal u.outcome
       → IsSearched by (on.cells.over w m) how outputs start goal before carried r
       → IsSearched by (on.cells.over v m) how outputs start goal before other u
       → r.incumbent ≡ newest (with_plan log r) → u.incumbent ≡ newest (with_plan log u)
-      → AreOneRecord (on.wording.told (on.cells.over w m)).states carried other r u
+      → AreOneRecord (on.reporting.told (on.cells.over w m)).states carried other r u
   one_record m how outputs start goal log before carried other r u made same begins_alike number joins joins' x
       y newest_is newest_is' =
       let here : W = on.cells.over w m in
       let there : W = on.cells.over v m in
       let a : Alike here there = alike.over w v m both_alike in
-      let count : ℕ = (on.wording.told here).states in
+      let count : ℕ = (on.reporting.told here).states in
       let n : Network = by.on.network here in
       let one_network : by.on.network here ≡ by.on.network there = goes.network here there same in
       let from : ℕ = from_by by start goal in
@@ -306,11 +306,11 @@ module _ {W : Type 0} (on : Site W) (Alike : W → W → Type 0) (alike : AreAli
       let guided : AreAlikeGuides (states_of x.begun) x.guide y.guide =
       λ s inside. guides s (subst (λ (k : ℕ). s < k) begun.states inside) in
       let passes : ArePasses by.means (record { network = n; guide = y.guide; goal = to; ask = ask }) how.first x.begun
-      y.notes other.labels y.spent = rw (one_network, begun.same) y.passes in
+      y.actions other.labels y.spent = rw (one_network, begun.same) y.passes in
       let one =
-      law.plans q y.guide how.budget (expanded_before before) how.first x.begun carried.labels other.labels x.notes
-      y.notes x.spent y.spent begun.no_arc guided x.passes passes (within_room x) (within_room y) in
-      let placed = passes_placed by.means law.passes q x.notes how.first x.begun carried.labels x.spent x.passes in
+      law.plans q y.guide how.budget (expanded_before before) how.first x.begun carried.labels other.labels x.actions
+      y.actions x.spent y.spent begun.no_arc guided x.passes passes (within_room x) (within_room y) in
+      let placed = passes_placed by.means law.passes q x.actions how.first x.begun carried.labels x.spent x.passes in
       let no_arc : back_of carried.labels carried.labels.start ≡ None = placed.no_arc begun.no_arc in
       let states : states_of carried.labels ≡ count = placed.states ∙ begun.states in
       let at_end : AreAlikeGuides (states_of carried.labels) x.guide y.guide =
@@ -318,7 +318,7 @@ module _ {W : Type 0} (on : Site W) (Alike : W → W → Type 0) (alike : AreAli
       let is_result : IsResultOf n y.guide to carried.labels y.found = rw (one_network, one.labels) y.is_result in
       let results : x.found ≡ y.found =
       one_result n x.guide y.guide to carried.labels x.found y.found no_arc at_end x.is_result is_result in
-      let turned : IsTurned (Leads back (on.wording.told there) start goal) x.found y.told.result =
+      let turned : IsTurned (Leads back (on.reporting.told there) start goal) x.found y.told.result =
       rw results y.told.turned in
       let paths : x.told.result ≡ y.told.result =
       one_turned (λ f l k. once here there start goal f l k same) x.found x.told.result
@@ -390,7 +390,7 @@ module _ {W : Type 0} (on : Site W) (Alike : W → W → Type 0) (alike : AreAli
         let plan : IsPlanOf by (on.cells.over v carried.map) how outputs (starts k) goal k log before other u =
         subst (λ (m : CellMap). IsPlanOf by (on.cells.over v m) how outputs (starts k) goal k log before other u)
         (sym maps) right.2 in
-        let same : on.wording.told (on.cells.over w carried.map) ≡ on.wording.told (on.cells.over v carried.map) =
+        let same : on.reporting.told (on.cells.over w carried.map) ≡ on.reporting.told (on.cells.over v carried.map) =
         alike.graph _ _ (alike.over w v carried.map both_alike) left.2.is_world plan.is_world in
         let one =
         one_record carried.map how outputs (starts k) goal log before carried other r u left.2.is_world same
@@ -433,29 +433,29 @@ pub few_are_first : {W : Type 0} (on : Site W) (Alike : W → W → Type 0) → 
     → ((p : Planner) → is_determined p ≡ true → IsPlannerDetermined (search_of p).means) → PathsTurnOnce
     → InitialLabelsAreOne → OutcomesAreOne → CutRowsAreOne → OneMap
     → FewAreFirst on Alike
-few_are_first on Alike alike laws turned initial one_result cut_one one_map w v course how outputs log rs us all broken
+few_are_first on Alike alike laws turned initial one_result cut_one one_map w v updates how outputs log rs us all broken
     also determined a left right =
     let starts : left.start ≡ right.start = alike.starts w v left.start right.start a left.start_is right.start_is in
     let goals : left.goal ≡ right.goal = alike.ends w v left.goal right.goal a left.goal_is right.goal_is in
     let back = may_move how.planner in
-    let mine : ℕ → ℕ = start_after on.wording w left.start course.moves in
-    let own : start_after on.wording v right.start course.moves ≡ mine =
-    same_starts on.wording v w right.start left.start course.moves course.moves
+    let mine : ℕ → ℕ = start_after on.reporting w left.start updates.moves in
+    let own : start_after on.reporting v right.start updates.moves ≡ mine =
+    same_starts on.reporting v w right.start left.start updates.moves updates.moves
     (sym (alike.state w v a)) (sym starts) refl in
-    let each : AreRecords (known on how.planner) v course.batches how outputs mine left.goal 0 log None us =
-    subst (λ (s : ℕ → ℕ). AreRecords (known on how.planner) v course.batches how outputs s left.goal 0 log None us) own
-    (subst (λ (g : ℕ). AreRecords (known on how.planner) v course.batches how outputs
-    (start_after on.wording v right.start course.moves) g 0 log None us) (sym goals) right.each)
+    let each : AreRecords (planner_for on how.planner) v updates.batches how outputs mine left.goal 0 log None us =
+    subst (λ (s : ℕ → ℕ). AreRecords (planner_for on how.planner) v updates.batches how outputs s left.goal 0 log None us) own
+    (subst (λ (g : ℕ). AreRecords (planner_for on how.planner) v updates.batches how outputs
+    (start_after on.reporting v right.start updates.moves) g 0 log None us) (sym goals) right.each)
     in
     let few = left.few in
     let many = right.all_made refl in
     one_records on Alike alike (search_of how.planner) (laws how.planner determined) back
     (goes_alike on Alike alike back) (leads_once on Alike alike turned back) initial one_result cut_one w v a one_map
-    course.batches how outputs mine left.goal
+    updates.batches how outputs mine left.goal
     rs us 0 log None tt (omega arith) left.each each
 
 pub records_are_one : {W : Type 0} (on : Site W) (Alike : W → W → Type 0) → FewAreFirst on Alike
     → RecordsAreOne on Alike
-records_are_one on Alike first w v course how outputs log rs us broken also determined alike left right =
-    let parted = first w v course how outputs log rs us true broken also determined alike left right in
+records_are_one on Alike first w v updates how outputs log rs us broken also determined alike left right =
+    let parted = first w v updates how outputs log rs us true broken also determined alike left right in
     whole_front rs us parted.0 parted.1 (right.all_made refl ∙ sym (left.all_made refl))

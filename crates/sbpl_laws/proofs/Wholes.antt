@@ -140,7 +140,7 @@ module _ (clear : TextsAreClear) (sections : SectionsAreClear) (one_map : OneMap
           elim (early_bad clear held f Alike stand Bad calls_for changes told_changes Failed r c) [
             | inl bad ↦
                 absurd (not_early clear held f Alike stand Bad calls_for changes told_changes planned.world
-                planned.course r bad planned.says planned.changes_say)
+                planned.updates r bad planned.says planned.changes_say)
             | inr out ↦ inl (unread Failed j (IsEarlyInput f changes) r input out)
           ]
 
@@ -148,7 +148,7 @@ module _ (clear : TextsAreClear) (sections : SectionsAreClear) (one_map : OneMap
         (own : List Entry) (broken : List Found) → IsEarlyCause held NoName f changes u
         → ArePlanned held f changes search outputs rs all own broken → ⊥
     plans_not_refused u search outputs rs all own broken quiet planned =
-        not_early clear held f Alike stand Bad calls_for changes told_changes planned.world planned.course u
+        not_early clear held f Alike stand Bad calls_for changes told_changes planned.world planned.updates u
         (early_quiet u quiet) planned.says planned.changes_say
 
     plans_agree : RecordsAreOne f.on Alike → FewAreFirst f.on Alike
@@ -181,7 +181,7 @@ module _ (clear : TextsAreClear) (sections : SectionsAreClear) (one_map : OneMap
           → IsCheckCause held NoName f changes labels u → IsChecked held f changes labels goals os end → ⊥
       checks_not_refused u goals os end quiet checked =
           not_check clear held f Alike stand Bad calls_for changes told_changes labels told_labels checked.world
-          checked.course checked.text u (check_quiet u quiet) checked.says checked.changes_say checked.read
+          checked.updates checked.text u (check_quiet u quiet) checked.says checked.changes_say checked.read
 
       module _ (input : (name : List ℕ) → IsEarlyInput f changes name ⊎ (name ≡ labels) → IsInput j name) where
         check_refusals : (r u : Refusal) → IsCheckCause held Failed f changes labels r
@@ -201,7 +201,7 @@ module _ (clear : TextsAreClear) (sections : SectionsAreClear) (one_map : OneMap
             elim (check_bad clear held f Alike stand Bad calls_for changes told_changes labels Failed r c) [
               | inl bad ↦
                   absurd (not_check clear held f Alike stand Bad calls_for changes told_changes labels told_labels
-                  checked.world checked.course checked.text r bad checked.says checked.changes_say checked.read)
+                  checked.world checked.updates checked.text r bad checked.says checked.changes_say checked.read)
               | inr out ↦ inl (unread Failed j (λ name. IsEarlyInput f changes name ⊎ (name ≡ labels)) r input out)
             ]
 

@@ -28,12 +28,12 @@ use Rattle.sbpl_promises.specs.sbpl_report.declared.refusal.Refusal.{Refusal}
 use Rattle.sbpl_promises.specs.sbpl_report.declared.refusal.Refusal.TheVariants as refusal
 use Rattle.sbpl_promises.specs.declared.section_stop.SectionStop.{SectionStop}
 use Rattle.sbpl_promises.specs.declared.section_stop.SectionStop.TheVariants as section
-use Rattle.sbpl_promises.specs.Asked.{Known}
+use Rattle.sbpl_promises.specs.Asked.{PlannerOn}
 use Rattle.sbpl_promises.specs.Causes.{ReadsWorld}
 use Rattle.sbpl_promises.specs.Headline.{AreRecords, Carried}
-use Rattle.sbpl_promises.specs.Asked.{known}
-use Rattle.sbpl_promises.specs.GridSite.{grid_site, grid_wording}
-use Rattle.sbpl_promises.specs.LatticeSite.{lattice_site, lattice_wording}
+use Rattle.sbpl_promises.specs.Asked.{planner_for}
+use Rattle.sbpl_promises.specs.GridSite.{grid_site, grid_reporting}
+use Rattle.sbpl_promises.specs.LatticeSite.{lattice_site, lattice_reporting}
 use Rattle.sbpl_promises.specs.Sites.{start_after}
 use Rattle.sbpl_promises.specs.Intents.{Intent, Refused, Planned, Checked, Listed, Demonstrated, OutOfMemory}
 use Rattle.sbpl_promises.specs.Intents.{checked_writes, end_writes, incumbent_writes, labels_writes, last_write}
@@ -159,7 +159,7 @@ section_full o P r there =
     one_more (to_output (section_text r)) _ (report_full r) (both (labels_writes o r)
     (trace_writes o r ++ incumbent_writes o r) written (both (trace_writes o r) (incumbent_writes o r) traced shown))
 
-module _ {W : Type 0} (by : Known W) (w : W) (batches : List (List change.Write)) (how : SearchJob) (o : Outputs)
+module _ {W : Type 0} (by : PlannerOn W) (w : W) (batches : List (List change.Write)) (how : SearchJob) (o : Outputs)
     (starts : ℕ → ℕ) (goal : ℕ) where
   records_full : (k : ℕ) (log : List Entry) (before : Option Carried) (rs : List PlanRecord)
       → AreRecords by w batches how o starts goal k log before rs
@@ -231,15 +231,15 @@ intent_full held Failed j OutOfMemory gives = no_writes
 intent_full held Failed (job.Plan p) (Planned records all log broken) gives =
     let plans = gives.plans in
     let sections =
-    records_full (known lattice_site p.search.planner) gives.world gives.course.batches p.search p.outputs
-    (start_after lattice_wording gives.world plans.start gives.course.moves) plans.goal 0 log None records plans.each in
+    records_full (planner_for lattice_site p.search.planner) gives.world gives.updates.batches p.search p.outputs
+    (start_after lattice_reporting gives.world plans.start gives.updates.moves) plans.goal 0 log None records plans.each in
     both _ _ sections (end_full all)
 intent_full held Failed (job.Check c) (Checked goals os end) gives = checked_full goals 0 os end
 intent_full held Failed (job.Nav n) (Planned records all log broken) gives =
     let plans = gives.plans in
     let sections =
-    records_full (known grid_site n.search.planner) gives.world gives.course.batches n.search n.outputs
-    (start_after grid_wording gives.world plans.start gives.course.moves) plans.goal 0 log None records plans.each in
+    records_full (planner_for grid_site n.search.planner) gives.world gives.updates.batches n.search n.outputs
+    (start_after grid_reporting gives.world plans.start gives.updates.moves) plans.goal 0 log None records plans.each in
     both _ _ sections (end_full all)
 intent_full held Failed (job.NavCheck n) (Checked goals os end) gives = checked_full goals 0 os end
 intent_full held Failed (job.Sweep from) (Listed w) gives = both _ _ (listed_full held from w gives.0) last_full

@@ -2,6 +2,6 @@
 //! ends keeps every promise.
 #![tactic(auto)]
 
-mod facts;
+mod laws;
 
-pub use facts::{records_are_determined, runs_keep_promises, texts_are_clear, writes_have_texts};
+pub use laws::{records_are_determined, runs_keep_promises, texts_are_clear, writes_have_texts};

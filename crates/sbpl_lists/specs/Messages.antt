@@ -15,8 +15,8 @@ unfoldable pub shown : List ℕ → List ℕ
 shown found = map shown_byte (take 40 found) ++ dots found
 
 -- where: `NAME:LINE:COLUMN: `
-unfoldable pub spot_text : List ℕ → ℕ → ℕ → List ℕ
-spot_text name line column = name ++ (codes ":" ++ (decimal line ++ (codes ":" ++ (decimal column ++ codes ": "))))
+unfoldable pub position_text : List ℕ → ℕ → ℕ → List ℕ
+position_text name line column = name ++ (codes ":" ++ (decimal line ++ (codes ":" ++ (decimal column ++ codes ": "))))
 
 -- what was found, between quotation marks
 unfoldable pub quoted_text : List ℕ → List ℕ
@@ -28,7 +28,7 @@ found_text found = if nat_lt 0 (length found) then quoted_text found else codes 
 
 -- a message: where, what must stand there, and what was found
 unfoldable pub message_text : List ℕ → ℕ → ℕ → List ℕ → List ℕ → List ℕ
-message_text name line column wanted found = spot_text name line column ++ (wanted ++ (found_text found ++ codes "\n"))
+message_text name line column wanted found = position_text name line column ++ (wanted ++ (found_text found ++ codes "\n"))
 
 -- a message for the line and the column of a place in a file, which says in some words what must stand there, and shows the token
 -- that begins there

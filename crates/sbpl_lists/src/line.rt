@@ -69,7 +69,8 @@ pub fn push_line<W: Word>(out: &mut Vec<u8>, words: &[W]) -> Result<(), NoMemory
 
 /// Appends lines of pieces, each of which is a word.
 pub fn push_lines(out: &mut Vec<u8>, lines: &[&[Piece]]) -> Result<(), NoMemory>
-    ensures appended { OnOk result (out.new.items ≡ out.old.items ++ lines_text (map (λ line. map piece_text line.now) lines.now)) }
+    ensures appended { OnOk result
+        (out.new.items ≡ out.old.items ++ lines_text (map (λ line. map piece_text line.now) lines.now)) }
 {
     for line in lines {
         push_line(out, *line)?;

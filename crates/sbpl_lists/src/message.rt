@@ -2,7 +2,8 @@
 
 ghost use Rattle.std.specs.Prelude.{◌≡◌, ◌++◌, IfOk, OnOk, map, take};
 ghost use Rattle.sbpl_lists.specs.Places.{column_of, filled_at, line_of};
-ghost use Rattle.sbpl_lists.specs.Messages.{dots, found_text, message_text, plain_text, quoted_text, shown, shown_byte, spot_text};
+ghost use Rattle.sbpl_lists.specs.Messages.{dots, found_text, message_text, plain_text, quoted_text, shown, shown_byte};
+ghost use Rattle.sbpl_lists.specs.Messages.{position_text};
 
 use crate::list_of::ListOf;
 use crate::number::push_bytes;
@@ -58,9 +59,9 @@ fn push_shown(alloc: Global, out: &mut Vec<u8>, found: &[u8]) -> Result<(), NoMe
 }
 
 /// Appends where a message belongs.
-#[tactic(auto, unfolding(crate::specs::Messages::spot_text))]
+#[tactic(auto, unfolding(crate::specs::Messages::position_text))]
 fn push_spot(out: &mut Vec<u8>, name: &str, line: usize, column: usize) -> Result<(), NoMemory>
-    ensures appended { OnOk result (out.new.items ≡ out.old.items ++ spot_text name.now line column) }
+    ensures appended { OnOk result (out.new.items ≡ out.old.items ++ position_text name.now line column) }
 {
     push_all(
         out,

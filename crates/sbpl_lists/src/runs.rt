@@ -1,6 +1,7 @@
 //! Lists that lie one after another in one table.
 
-ghost use Rattle.std.specs.Prelude.{◌≡◌, ◌+◌, ◌<◌, ◌≤◌, [], ◌∷◌, ◌++◌, length, slice_get, slice_index, slice_range, Some};
+ghost use Rattle.std.specs.Prelude.{◌≡◌, ◌+◌, ◌<◌, ◌≤◌, [], ◌∷◌, ◌++◌, length, slice_get};
+ghost use Rattle.std.specs.Prelude.{slice_index, slice_range, Some};
 ghost use Rattle.std.specs.Prelude.{IfOk, OnOk, OnErr};
 
 use sbpl_fixed::NoMemory;

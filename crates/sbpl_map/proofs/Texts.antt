@@ -183,10 +183,10 @@ changes_on m text (Err f) h = tt
 -- ---- texts of writes and moves
 
 -- batches with their moves
-abbrev pub Course : Type 0
-Course = List (List Write) × List (Option Place)
+abbrev pub Updates : Type 0
+Updates = List (List Write) × List (Option Place)
 
-abbrev pub moves_of : CellMap → ℕ → List ℕ → Result Course ChangeFault
+abbrev pub moves_of : CellMap → ℕ → List ℕ → Result Updates ChangeFault
 moves_of m headings text = parted (told_by m (Some headings) text)
 
 pub moves_given : (m : CellMap) (headings : ℕ) (text : List ℕ) (batches : List (List Write))
@@ -198,20 +198,20 @@ pub moves_fault_given : (m : CellMap) (headings : ℕ) (text : List ℕ) (f : Ch
     → HasMovesFault m headings text f → moves_of m headings text ≡ Err f
 moves_fault_given m headings text f h = ap parted (fault_gives m (Some headings) text f h)
 
-pub same_course : (r : Result Course ChangeFault) (x y : Course) → r ≡ Ok x → r ≡ Ok y → x ≡ y
-same_course r x y e f = let both : Ok x ≡ Ok y = sym e ∙ f in cc
+pub same_updates : (r : Result Updates ChangeFault) (x y : Updates) → r ≡ Ok x → r ≡ Ok y → x ≡ y
+same_updates r x y e f = let both : Ok x ≡ Ok y = sym e ∙ f in cc
 
-abbrev IsCourse : CellMap → ℕ → List ℕ → Course → Type 0
-IsCourse m headings text x = IsMovesTextOf m headings text x.0 x.1
+abbrev AreUpdates : CellMap → ℕ → List ℕ → Updates → Type 0
+AreUpdates m headings text x = IsMovesTextOf m headings text x.0 x.1
 
 moves_told : (m : CellMap) (headings : ℕ) (text : List ℕ) (r : Result (List (List Given)) ChangeFault)
     → Gave m (Some headings) text r
-    → Tells (IsCourse m headings text) (λ f. HasMovesFault m headings text f) (parted r)
+    → Tells (AreUpdates m headings text) (λ f. HasMovesFault m headings text f) (parted r)
 moves_told m headings text (Ok told) g = (told, g, refl, refl)
 moves_told m headings text (Err f) g = g
 
 moves_are : (m : CellMap) (headings : ℕ) (text : List ℕ)
-    → Tells (IsCourse m headings text) (λ f. HasMovesFault m headings text f) (moves_of m headings text)
+    → Tells (AreUpdates m headings text) (λ f. HasMovesFault m headings text f) (moves_of m headings text)
 moves_are m headings text = moves_told m headings text (told_by m (Some headings) text) (gave_of m (Some headings) text)
 
 pub moves_or_fault : (m : CellMap) (headings : ℕ) (text : List ℕ)
@@ -220,35 +220,35 @@ moves_or_fault m headings text =
     let are = moves_are m headings text in
     let memory = not_memory m (Some headings) text in
     let fault = λ (f : ChangeFault). HasMovesFault m headings text f in
-    elim (either_of (IsCourse m headings text) fault (moves_of m headings text) are memory) [
+    elim (either_of (AreUpdates m headings text) fault (moves_of m headings text) are memory) [
       | inl v ↦ inl (v.0.0, v.0.1, v.1)
       | inr f ↦ inr f
     ]
 
-pub moves_found : (m : CellMap) (headings : ℕ) (text : List ℕ) (r : Result Course ChangeFault)
+pub moves_found : (m : CellMap) (headings : ℕ) (text : List ℕ) (r : Result Updates ChangeFault)
     → Answers NoMemory (λ x. x) r (moves_of m headings text) → IfOk r (λ x. IsMovesTextOf m headings text x.0 x.1)
 moves_found m headings text r h =
     let are = moves_are m headings text in
-    found_of (IsCourse m headings text) (λ f. HasMovesFault m headings text f) r (moves_of m headings text) are h
+    found_of (AreUpdates m headings text) (λ f. HasMovesFault m headings text f) r (moves_of m headings text) are h
 
-pub moves_faulty : (m : CellMap) (headings : ℕ) (text : List ℕ) (r : Result Course ChangeFault)
+pub moves_faulty : (m : CellMap) (headings : ℕ) (text : List ℕ) (r : Result Updates ChangeFault)
     → Answers NoMemory (λ x. x) r (moves_of m headings text)
     → IfErr r (λ f. f ≢ NoMemory → HasMovesFault m headings text f)
 moves_faulty m headings text r h =
     let are = moves_are m headings text in
-    faulty_of (IsCourse m headings text) (λ f. HasMovesFault m headings text f) r (moves_of m headings text) are h
+    faulty_of (AreUpdates m headings text) (λ f. HasMovesFault m headings text f) r (moves_of m headings text) are h
 
 told_on : (m : CellMap) (headings : ℕ) (text : List ℕ) (told : List (List Given))
     → StandsFor m (Some headings) text told → AreGivenOn m (Some headings) told
 told_on m headings text told h = given_on m (Some headings) (lines_with_fields (lines text)) told h
 
-pub moves_on : (m : CellMap) (headings : ℕ) (text : List ℕ) (r : Result Course ChangeFault)
+pub moves_on : (m : CellMap) (headings : ℕ) (text : List ℕ) (r : Result Updates ChangeFault)
     → IfOk r (λ x. IsMovesTextOf m headings text x.0 x.1) → IfOk r (λ x. AreOnMap m x.0)
 moves_on m headings text (Ok x) h =
     subst (λ l. AreOnMap m l) (sym h.2) (all_writes_on m (Some headings) h.0 (told_on m headings text h.0 h.1))
 moves_on m headings text (Err f) h = tt
 
-pub places_on : (m : CellMap) (headings : ℕ) (text : List ℕ) (r : Result Course ChangeFault)
+pub places_on : (m : CellMap) (headings : ℕ) (text : List ℕ) (r : Result Updates ChangeFault)
     → IfOk r (λ x. IsMovesTextOf m headings text x.0 x.1) → IfOk r (λ x. ArePlacesOnMap m headings x.1)
 places_on m headings text (Ok x) h =
     subst (λ l. ArePlacesOnMap m headings l) (sym h.3) (all_places_on m headings h.0 (told_on m headings text h.0 h.1))
@@ -258,7 +258,7 @@ as_many : (told : List (List Given)) → length (map place_of told) ≡ length (
 as_many [] = refl
 as_many (b ∷ bs) = omega (arith, as_many bs)
 
-pub one_for_each : (m : CellMap) (headings : ℕ) (text : List ℕ) (r : Result Course ChangeFault)
+pub one_for_each : (m : CellMap) (headings : ℕ) (text : List ℕ) (r : Result Updates ChangeFault)
     → IfOk r (λ x. IsMovesTextOf m headings text x.0 x.1) → IfOk r (λ x. length x.1 ≡ length x.0)
 one_for_each m headings text (Ok x) h = rw (h.2, h.3) (as_many h.0)
 one_for_each m headings text (Err f) h = tt

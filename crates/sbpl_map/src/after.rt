@@ -11,10 +11,12 @@ pub fn writes_lead_to_the_next_map()
     ensures first { (first : CellMap) (batches : List (List Write)) → IsMapAfter first batches 0 first }
     ensures no_writes { (old : CellMap) → AreWritten old [] old }
     ensures one_write { (old now new : CellMap) (writes : List Write) (w : Write)
-        → AreWritten old writes now → ChangesCell now new (pos w.x) (pos w.y) w.cost → AreWritten old (writes ++ w ∷ []) new }
+        → AreWritten old writes now → ChangesCell now new (pos w.x) (pos w.y) w.cost
+        → AreWritten old (writes ++ w ∷ []) new }
     ensures next { (first now new : CellMap) (batches : List (List Write)) (k : ℕ) (batch : List Write)
         → IsMapAfter first batches k now → slice_get batches k ≡ Some batch → AreWritten now batch new
         → IsMapAfter first batches (k + 1) new }
     ensures one_map { (first now other : CellMap) (batches : List (List Write)) (k : ℕ)
-        → IsCellMap now → IsCellMap other → IsMapAfter first batches k now → IsMapAfter first batches k other → now ≡ other }
+        → IsCellMap now → IsCellMap other → IsMapAfter first batches k now → IsMapAfter first batches k other
+        → now ≡ other }
 {}

@@ -1,6 +1,7 @@
 //! A change file is read.
 
-ghost use Rattle.std.specs.Prelude.{◌≡◌, ◌≢◌, ◌+◌, ◌<◌, ◌≤◌, ◌^◌, List, Option, Ok, Err, length, IfOk, IfErr, OnOk};
+ghost use Rattle.std.specs.Prelude.{◌≡◌, ◌≢◌, ◌+◌, ◌<◌, ◌≤◌, ◌^◌, List, Option, Ok, Err, length};
+ghost use Rattle.std.specs.Prelude.{IfOk, IfErr, OnOk};
 ghost use Rattle.sbpl_cfg.specs.sbpl_fixed.Formats.{Answers};
 ghost use Rattle.sbpl_cfg.specs.declared.pose.Place.{Place};
 ghost use Rattle.sbpl_map.specs.declared.fault.ChangeFault.{ChangeFault};

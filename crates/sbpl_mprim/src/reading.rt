@@ -1,6 +1,7 @@
 //! The parts of a primitive file are read.
 
-ghost use Rattle.std.specs.Prelude.{◌≡◌, ◌-◌, ◌+◌, ◌<◌, ◌≤◌, ℕ, [], pos, negsuc, length, sum_by, vec_len, IfOk, OnOk};
+ghost use Rattle.std.specs.Prelude.{◌≡◌, ◌-◌, ◌+◌, ◌<◌, ◌≤◌, ℕ, [], pos, negsuc, length, sum_by, vec_len};
+ghost use Rattle.std.specs.Prelude.{IfOk, OnOk};
 ghost use Rattle.sbpl_cfg.specs.Environment.{IsWithin};
 ghost use Rattle.sbpl_fixed.specs.Formats.{Gives, Left, reads, turns};
 ghost use Rattle.sbpl_mprim.specs.declared.fault.PrimFault.TheVariants.{NoMemory as Memory};
@@ -253,7 +254,8 @@ fn read_next_prim(
     requires cell { IsWithin (pos 1) (pos 1000000000000) cell }
     requires some { 0 < headings }
     requires few { headings ≤ 64 }
-    ensures read { Gives Memory (λ _. earlier.new) result reader.new (reads told (prim_turn cell headings earlier.old) reader.old) }
+    ensures read { Gives Memory (λ _. earlier.new) result reader.new
+        (reads told (prim_turn cell headings earlier.old) reader.old) }
 {
     let prim = read_prim(alloc, cell, headings, earlier, reader)?;
     earlier.push(prim)?;

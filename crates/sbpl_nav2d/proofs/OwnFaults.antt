@@ -11,8 +11,8 @@ use Rattle.sbpl_terrain.specs.sbpl_cfg.declared.fault.EnvFault.{EnvFault}
 use Rattle.sbpl_terrain.specs.sbpl_cfg.declared.fault.EnvFault.TheVariants.{NoMemory, TooLarge, StartOff, EndOff}
 use Rattle.sbpl_nav2d.specs.declared.parts.Size.{Size}
 use Rattle.sbpl_terrain.specs.sbpl_cfg.Faults.{told}
-use Rattle.sbpl_nav2d.specs.Format.{size_format, obsthresh_format, spot_format, start_spot_format}
-use Rattle.sbpl_nav2d.specs.Format.{end_spot_format, start_format, end_format, numbers_format}
+use Rattle.sbpl_nav2d.specs.Format.{size_format, obsthresh_format, grid_cell_format, start_grid_cell_format}
+use Rattle.sbpl_nav2d.specs.Format.{end_grid_cell_format, start_format, end_format, numbers_format}
 use Rattle.sbpl_nav2d.specs.Format.{cost_format, grid_format, environment_format}
 use Rattle.sbpl_nav2d.specs.Text.{HasFault}
 
@@ -33,18 +33,18 @@ obsthresh_spares : Spares NoMemory obsthresh_format
 unfolding Spares obsthresh_format
 obsthresh_spares = λ _ _ _ _. tt
 
-spot_spares : (w : List ℕ) → Spares NoMemory (spot_format w)
-unfolding Spares spot_format
-spot_spares w = λ _ _ _ _ _ _. tt
+grid_cell_spares : (w : List ℕ) → Spares NoMemory (grid_cell_format w)
+unfolding Spares grid_cell_format
+grid_cell_spares w = λ _ _ _ _ _ _. tt
 
 start_spares : (size : Size) → Spares NoMemory (start_format size)
-unfolding start_format start_spot_format
-start_spares size = and_then_spares NoMemory start_spot_format _ (spot_spares _)
+unfolding start_format start_grid_cell_format
+start_spares size = and_then_spares NoMemory start_grid_cell_format _ (grid_cell_spares _)
     (λ p. right_spares NoMemory _ (StartOff p.place) (done _) (λ q. cc) (done_spares NoMemory _))
 
 end_spares : (size : Size) → Spares NoMemory (end_format size)
-unfolding end_format end_spot_format
-end_spares size = and_then_spares NoMemory end_spot_format _ (spot_spares _)
+unfolding end_format end_grid_cell_format
+end_spares size = and_then_spares NoMemory end_grid_cell_format _ (grid_cell_spares _)
     (λ p. right_spares NoMemory _ (EndOff p.place) (done _) (λ q. cc) (done_spares NoMemory _))
 
 numbers_spare : Spares NoMemory numbers_format

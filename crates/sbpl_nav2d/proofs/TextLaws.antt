@@ -19,9 +19,9 @@ use Rattle.sbpl_terrain.specs.sbpl_cfg.Text.{Said, word, number, spelled_grid}
 use Rattle.sbpl_terrain.proofs.Items.{Begins, all_begins, append_begins, at_end, begins_all, begins_append, fixed_is}
 use Rattle.sbpl_terrain.proofs.Items.{if_right, is_fixed, is_within, unless_wrong, within_is}
 use Rattle.sbpl_nav2d.specs.declared.parts.Size.{Size}
-use Rattle.sbpl_nav2d.specs.declared.parts.Spot.{Spot}
+use Rattle.sbpl_nav2d.specs.declared.parts.GridCell.{GridCell}
 use Rattle.sbpl_nav2d.specs.Environment.{NavEnvironment, IsNavEnvironment, column_of, row_of}
-use Rattle.sbpl_nav2d.specs.Format.{size_format, obsthresh_format, spot_format, start_spot_format, end_spot_format}
+use Rattle.sbpl_nav2d.specs.Format.{size_format, obsthresh_format, grid_cell_format, start_grid_cell_format, end_grid_cell_format}
 use Rattle.sbpl_nav2d.specs.Format.{start_format, end_format, numbers_format, cost_format, grid_format}
 use Rattle.sbpl_nav2d.specs.Format.{environment_format, is_on_map, state_of}
 use Rattle.sbpl_nav2d.specs.Text.{IsTextOf, spelled, spelled_numbers, spelled_state}
@@ -128,34 +128,34 @@ says_obsthresh n (t ∷ u ∷ ts) rest h k =
 
 -- ---- cells
 
-abbrev spot_words : List ℕ → Spot → List Said
-spot_words w p = word w ∷ number (pos p.x) ∷ number (pos p.y) ∷ []
+abbrev grid_cell_words : List ℕ → GridCell → List Said
+grid_cell_words w p = word w ∷ number (pos p.x) ∷ number (pos p.y) ∷ []
 
-record IsSpot (p : Spot) : Type 0 where
+record IsGridCell (p : GridCell) : Type 0 where
   x : p.x ≤ 8388607
   y : p.y ≤ 8388607
 
-spot_said : (w : List ℕ) (p : Placed Spot) (ts rest : List Piece) → Says (spot_format w) ts p rest
-    → Begins (spot_words w p.value) ts rest
-unfolding spot_format Says
-spot_said w p [] rest h = absurd h
-spot_said w p (t ∷ []) rest h = absurd h.2
-spot_said w p (t ∷ u ∷ []) rest h = absurd h.2.2
-spot_said w p (t ∷ u ∷ v ∷ ts) rest h =
+grid_cell_said : (w : List ℕ) (p : Placed GridCell) (ts rest : List Piece) → Says (grid_cell_format w) ts p rest
+    → Begins (grid_cell_words w p.value) ts rest
+unfolding grid_cell_format Says
+grid_cell_said w p [] rest h = absurd h
+grid_cell_said w p (t ∷ []) rest h = absurd h.2
+grid_cell_said w p (t ∷ u ∷ []) rest h = absurd h.2.2
+grid_cell_said w p (t ∷ u ∷ v ∷ ts) rest h =
     let x = natural_said 0 8388607 h.2.0 u.bytes h.2.1 in
     let y = natural_said 0 8388607 h.2.2.0 v.bytes h.2.2.1 in
     let g = h.2.2.2 in
-    let is_x : nat_abs h.2.0 ≡ p.value.x = ap (λ (q : Placed Spot). q.value.x) (sym g.0) in
-    let is_y : nat_abs h.2.2.0 ≡ p.value.y = ap (λ (q : Placed Spot). q.value.y) (sym g.0) in
+    let is_x : nat_abs h.2.0 ≡ p.value.x = ap (λ (q : Placed GridCell). q.value.x) (sym g.0) in
+    let is_y : nat_abs h.2.2.0 ≡ p.value.y = ap (λ (q : Placed GridCell). q.value.y) (sym g.0) in
     (fixed_is w t.bytes h.0 h.1, (x.value ∙ ap (λ m. Ok (pos m)) is_x, (y.value ∙ ap (λ m. Ok (pos m)) is_y, g.1)))
 
-says_spot : (w : List ℕ) (p : Spot) (ts rest : List Piece) → Begins (spot_words w p) ts rest → IsSpot p
-    → (place : ℕ) × Says (spot_format w) ts (record { value = p; place = place }) rest
-unfolding spot_format Says
-says_spot w p [] rest h k = absurd h
-says_spot w p (t ∷ []) rest h k = absurd h.1
-says_spot w p (t ∷ u ∷ []) rest h k = absurd h.1.1
-says_spot w p (t ∷ u ∷ v ∷ ts) rest h k = (
+says_grid_cell : (w : List ℕ) (p : GridCell) (ts rest : List Piece) → Begins (grid_cell_words w p) ts rest → IsGridCell p
+    → (place : ℕ) × Says (grid_cell_format w) ts (record { value = p; place = place }) rest
+unfolding grid_cell_format Says
+says_grid_cell w p [] rest h k = absurd h
+says_grid_cell w p (t ∷ []) rest h k = absurd h.1
+says_grid_cell w p (t ∷ u ∷ []) rest h k = absurd h.1.1
+says_grid_cell w p (t ∷ u ∷ v ∷ ts) rest h k = (
   u.place,
   (
     pos 0,
@@ -174,26 +174,26 @@ says_spot w p (t ∷ u ∷ v ∷ ts) rest h k = (
 quotient_below : (s a n : ℕ) → 1 ≤ n → s < a * n → s / n < a
 quotient_below s a n some h = (div-lt_iff_lt-mul {k = n} {x = s} {y = a} some).1 h
 
-abbrev spot_of : Size → ℕ → Spot
-spot_of size s = record { x = column_of size.width s; y = row_of size.width s }
+abbrev grid_cell_of : Size → ℕ → GridCell
+grid_cell_of size s = record { x = column_of size.width s; y = row_of size.width s }
 
-record IsSpotOf (size : Size) (p : Spot) (s : ℕ) : Type 0 where
+record IsGridCellOf (size : Size) (p : GridCell) (s : ℕ) : Type 0 where
   inside : s < size.width * size.height
-  spot : p ≡ spot_of size s
+  grid_cell : p ≡ grid_cell_of size s
 
-same_spot : (p q : Spot) → p.x ≡ q.x → p.y ≡ q.y → p ≡ q
-same_spot p q x y = rw (x, y) refl
+same_grid_cell : (p q : GridCell) → p.x ≡ q.x → p.y ≡ q.y → p ≡ q
+same_grid_cell p q x y = rw (x, y) refl
 
 -- a cell on the map is that of its state
-spot_of_state : (size : Size) (p : Spot) → is_on_map size p ≡ true → IsSpotOf size p (state_of size p)
-spot_of_state size p h =
+grid_cell_of_state : (size : Size) (p : GridCell) → is_on_map size p ≡ true → IsGridCellOf size p (state_of size p)
+grid_cell_of_state size p h =
     let both = and_parts (nat_lt p.x size.width) (nat_lt p.y size.height) h in
     let right = ltb-true p.x size.width both.0 in
     let high = ltb-true p.y size.height both.1 in
     let inside = mul-add-lt p.y size.width p.x size.height high right in
     record {
       inside = omega (arith, inside);
-      spot = same_spot p (spot_of size (state_of size p)) (sym (mod-mul-add p.y size.width p.x right))
+      grid_cell = same_grid_cell p (grid_cell_of size (state_of size p)) (sym (mod-mul-add p.y size.width p.x right))
           (sym (div-mul-add p.y size.width p.x right));
     }
 
@@ -205,64 +205,64 @@ module _ (size : Size) (is : IsSize size) (s : ℕ) (inside : s < size.width * s
   column_below : column_of size.width s < size.width
   column_below = let some = is.width.0 in omega arith
 
-  is_spot : IsSpot (spot_of size s)
-  is_spot = let column = column_below in let row = row_below in let width = is.width.1 in let height = is.height.1 in
+  is_grid_cell : IsGridCell (grid_cell_of size s)
+  is_grid_cell = let column = column_below in let row = row_below in let width = is.width.1 in let height = is.height.1 in
       record { x = omega arith; y = omega arith }
 
-  spot_on_map : is_on_map size (spot_of size s) ≡ true
-  spot_on_map = and_from _ _ (lt-ltb (column_of size.width s) size.width column_below)
+  grid_cell_on_map : is_on_map size (grid_cell_of size s) ≡ true
+  grid_cell_on_map = and_from _ _ (lt-ltb (column_of size.width s) size.width column_below)
       (lt-ltb (row_of size.width s) size.height row_below)
 
-  state_of_spot : state_of size (spot_of size s) ≡ s
-  state_of_spot = div-add-mod' s size.width
+  state_of_grid_cell : state_of size (grid_cell_of size s) ≡ s
+  state_of_grid_cell = div-add-mod' s size.width
 
 start_said : (size : Size) (s : ℕ) (ts rest : List Piece) → Says (start_format size) ts s rest
     → Begins (spelled_state (codes "start(cells):") size.width s) ts rest × (s < size.width * size.height)
-unfolding start_format start_spot_format
+unfolding start_format start_grid_cell_format
 start_said size s ts rest h =
     let a = says_parts _ _ ts rest s h in
-    let r = spot_said _ a.0 ts a.1 a.2 in
+    let r = grid_cell_said _ a.0 ts a.1 a.2 in
     let g = if_right _ _ s _ a.1 rest a.3 in
-    let is = spot_of_state size a.0.value g.0 in
-    let at = subst (IsSpotOf size a.0.value) (sym g.1) is in (
+    let is = grid_cell_of_state size a.0.value g.0 in
+    let at = subst (IsGridCellOf size a.0.value) (sym g.1) is in (
       subst (λ m. Begins (spelled_state (codes "start(cells):") size.width s) ts m) (sym g.2)
-          (subst (λ p. Begins (spot_words (codes "start(cells):") p) ts a.1) at.spot r),
+          (subst (λ p. Begins (grid_cell_words (codes "start(cells):") p) ts a.1) at.grid_cell r),
       at.inside,
     )
 
 says_start : (size : Size) (s : ℕ) (ts rest : List Piece)
     → Begins (spelled_state (codes "start(cells):") size.width s) ts rest → IsSize size → s < size.width * size.height
     → Says (start_format size) ts s rest
-unfolding start_format start_spot_format Says
+unfolding start_format start_grid_cell_format Says
 says_start size s ts rest h is inside =
-    let a = says_spot _ (spot_of size s) ts rest h (is_spot size is s inside) in
-    let on = spot_on_map size is s inside in
-    says_both (spot_format (codes "start(cells):")) _ ts rest rest
-    (record { value = spot_of size s; place = a.0 }) s a.1 (rw on (sym (state_of_spot size is s inside), refl))
+    let a = says_grid_cell _ (grid_cell_of size s) ts rest h (is_grid_cell size is s inside) in
+    let on = grid_cell_on_map size is s inside in
+    says_both (grid_cell_format (codes "start(cells):")) _ ts rest rest
+    (record { value = grid_cell_of size s; place = a.0 }) s a.1 (rw on (sym (state_of_grid_cell size is s inside), refl))
 
 end_said : (size : Size) (s : ℕ) (ts rest : List Piece) → Says (end_format size) ts s rest
     → Begins (spelled_state (codes "end(cells):") size.width s) ts rest × (s < size.width * size.height)
-unfolding end_format end_spot_format
+unfolding end_format end_grid_cell_format
 end_said size s ts rest h =
     let a = says_parts _ _ ts rest s h in
-    let r = spot_said _ a.0 ts a.1 a.2 in
+    let r = grid_cell_said _ a.0 ts a.1 a.2 in
     let g = if_right _ _ s _ a.1 rest a.3 in
-    let is = spot_of_state size a.0.value g.0 in
-    let at = subst (IsSpotOf size a.0.value) (sym g.1) is in (
+    let is = grid_cell_of_state size a.0.value g.0 in
+    let at = subst (IsGridCellOf size a.0.value) (sym g.1) is in (
       subst (λ m. Begins (spelled_state (codes "end(cells):") size.width s) ts m) (sym g.2)
-          (subst (λ p. Begins (spot_words (codes "end(cells):") p) ts a.1) at.spot r),
+          (subst (λ p. Begins (grid_cell_words (codes "end(cells):") p) ts a.1) at.grid_cell r),
       at.inside,
     )
 
 says_end : (size : Size) (s : ℕ) (ts rest : List Piece)
     → Begins (spelled_state (codes "end(cells):") size.width s) ts rest → IsSize size → s < size.width * size.height
     → Says (end_format size) ts s rest
-unfolding end_format end_spot_format Says
+unfolding end_format end_grid_cell_format Says
 says_end size s ts rest h is inside =
-    let a = says_spot _ (spot_of size s) ts rest h (is_spot size is s inside) in
-    let on = spot_on_map size is s inside in
-    says_both (spot_format (codes "end(cells):")) _ ts rest rest (record { value = spot_of size s; place = a.0 }) s a.1
-    (rw on (sym (state_of_spot size is s inside), refl))
+    let a = says_grid_cell _ (grid_cell_of size s) ts rest h (is_grid_cell size is s inside) in
+    let on = grid_cell_on_map size is s inside in
+    says_both (grid_cell_format (codes "end(cells):")) _ ts rest rest (record { value = grid_cell_of size s; place = a.0 }) s a.1
+    (rw on (sym (state_of_grid_cell size is s inside), refl))
 
 -- ---- all numbers but the costs
 

@@ -5,15 +5,15 @@ use Rattle.sbpl_fixed.specs.declared.placed.Placed.{Placed}
 use Rattle.sbpl_terrain.specs.sbpl_cfg.declared.fault.EnvFault.{EnvFault}
 use Rattle.sbpl_terrain.specs.sbpl_cfg.declared.fault.EnvFault.TheVariants.{TooLarge, StartOff, EndOff}
 use Rattle.sbpl_nav2d.specs.declared.parts.Size.{Size}
-use Rattle.sbpl_nav2d.specs.declared.parts.Spot.{Spot}
+use Rattle.sbpl_nav2d.specs.declared.parts.GridCell.{GridCell}
 use Rattle.sbpl_nav2d.specs.Environment.{NavEnvironment}
 
 -- whether a cell is on a map of this size
-abbrev pub is_on_map : Size → Spot → Bool
+abbrev pub is_on_map : Size → GridCell → Bool
 is_on_map size p = nat_lt p.x size.width && nat_lt p.y size.height
 
 -- the state of a cell
-abbrev pub state_of : Size → Spot → ℕ
+abbrev pub state_of : Size → GridCell → ℕ
 state_of size p = p.y * size.width + p.x
 
 -- the map's size; its fault, where there are too many states, is at the width
@@ -33,29 +33,29 @@ obsthresh_format =
     done (nat_abs value)))
 
 -- a word and a cell after it, with the offset of its x
-unfoldable pub spot_format : List ℕ → Format EnvFault (Placed Spot)
-spot_format word =
+unfoldable pub grid_cell_format : List ℕ → Format EnvFault (Placed GridCell)
+grid_cell_format word =
     item (fixed word) (λ _ _.
     item (whole (pos 0) (pos 8388607)) (λ place x.
     item (whole (pos 0) (pos 8388607)) (λ _ y.
     done (record { value = record { x = nat_abs x; y = nat_abs y }; place = place }))))
 
-unfoldable pub start_spot_format : Format EnvFault (Placed Spot)
-start_spot_format = spot_format (codes "start(cells):")
+unfoldable pub start_grid_cell_format : Format EnvFault (Placed GridCell)
+start_grid_cell_format = grid_cell_format (codes "start(cells):")
 
-unfoldable pub end_spot_format : Format EnvFault (Placed Spot)
-end_spot_format = spot_format (codes "end(cells):")
+unfoldable pub end_grid_cell_format : Format EnvFault (Placed GridCell)
+end_grid_cell_format = grid_cell_format (codes "end(cells):")
 
 -- the start, which must be on the map
 unfoldable pub start_format : Size → Format EnvFault ℕ
 start_format size =
-    and_then start_spot_format (λ p.
+    and_then start_grid_cell_format (λ p.
     if is_on_map size p.value then done (state_of size p.value) else wrong (StartOff p.place))
 
 -- the end, which must be on the map
 unfoldable pub end_format : Size → Format EnvFault ℕ
 end_format size =
-    and_then end_spot_format (λ p.
+    and_then end_grid_cell_format (λ p.
     if is_on_map size p.value then done (state_of size p.value) else wrong (EndOff p.place))
 
 -- all numbers but the costs

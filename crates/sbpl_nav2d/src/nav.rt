@@ -1,6 +1,7 @@
 //! The grid: an environment and a map, as a graph.
 
-ghost use Rattle.std.specs.Prelude.{◌≡◌, ℕ, pos, ◌<◌, ◌≤◌, ◌↔◌, IsSome, IfSome, IsOk, IfOk, OnOk, OnErr, Some};
+ghost use Rattle.std.specs.Prelude.{◌≡◌, ℕ, pos, ◌<◌, ◌≤◌, ◌↔◌, IsSome, IfSome, IsOk, IfOk, OnOk, OnErr};
+ghost use Rattle.std.specs.Prelude.{Some};
 ghost use Rattle.sbpl_terrain.specs.sbpl_map.CellMap.{cost_at, IsOnMap, ChangesCell};
 ghost use Rattle.sbpl_nav2d.specs.Directions.{by, step_cost, IsNear};
 ghost use Rattle.sbpl_nav2d.specs.World.{GridWorld, IsGridWorld};

@@ -9,7 +9,7 @@ pub(crate) struct Size {
 
 /// A cell, by its column and its row from 0. It may lie off the map.
 #[derive(Clone, Copy)]
-pub(crate) struct Spot {
+pub(crate) struct GridCell {
     pub(crate) x: u32,
     pub(crate) y: u32,
 }

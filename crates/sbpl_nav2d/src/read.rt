@@ -6,13 +6,13 @@ ghost use Rattle.sbpl_terrain.specs.sbpl_cfg.Faults.{told};
 ghost use Rattle.sbpl_terrain.specs.sbpl_cfg.declared.fault.EnvFault.{EnvFault};
 ghost use Rattle.sbpl_terrain.specs.sbpl_cfg.declared.fault.EnvFault.TheVariants.{NoMemory};
 ghost use Rattle.sbpl_nav2d.specs.Environment.{NavEnvironment};
-ghost use Rattle.sbpl_nav2d.specs.Format.{cost_format, end_format, end_spot_format, environment_format, grid_format};
-ghost use Rattle.sbpl_nav2d.specs.Format.{is_on_map, numbers_format, obsthresh_format, size_format, spot_format};
-ghost use Rattle.sbpl_nav2d.specs.Format.{start_format, start_spot_format, state_of};
+ghost use Rattle.sbpl_nav2d.specs.Format.{cost_format, end_format, end_grid_cell_format, environment_format, grid_format};
+ghost use Rattle.sbpl_nav2d.specs.Format.{is_on_map, numbers_format, obsthresh_format, size_format, grid_cell_format};
+ghost use Rattle.sbpl_nav2d.specs.Format.{start_format, start_grid_cell_format, state_of};
 ghost use Rattle.sbpl_nav2d.specs.Text.{HasFault, IsTextOf};
 
 use crate::env::NavEnv;
-use crate::parts::{Size, Spot};
+use crate::parts::{GridCell, Size};
 use sbpl_fixed::{Placed, Reader};
 use sbpl_terrain::{EnvFault, Grid};
 use std::alloc::Global;
@@ -50,15 +50,15 @@ fn obsthresh(reader: &mut Reader) -> Result<u8, EnvFault>
 }
 
 /// A word, and a cell after it, with the place of its x.
-#[tactic(auto, unfolding(sbpl_fixed::specs::Formats::reads, crate::specs::Format::spot_format))]
-fn spot(reader: &mut Reader, word: &[u8]) -> Result<Placed<Spot>, EnvFault>
-    ensures read { Gives NoMemory (λ x. x) result reader.new (reads told (spot_format word.now) reader.old) }
+#[tactic(auto, unfolding(sbpl_fixed::specs::Formats::reads, crate::specs::Format::grid_cell_format))]
+fn grid_cell(reader: &mut Reader, word: &[u8]) -> Result<Placed<GridCell>, EnvFault>
+    ensures read { Gives NoMemory (λ x. x) result reader.new (reads told (grid_cell_format word.now) reader.old) }
 {
     reader.word(word)?;
     let x = reader.natural(0, 8_388_607)?;
     let y = reader.natural(0, 8_388_607)?;
     Ok(Placed {
-        value: Spot {
+        value: GridCell {
             x: x.value,
             y: y.value,
         },
@@ -67,14 +67,14 @@ fn spot(reader: &mut Reader, word: &[u8]) -> Result<Placed<Spot>, EnvFault>
 }
 
 /// Whether a cell is on the map.
-fn is_on_map(size: &Size, p: &Spot) -> bool
+fn is_on_map(size: &Size, p: &GridCell) -> bool
     ensures on_map { result ≡ is_on_map size.now p.now }
 {
     p.x < size.width && p.y < size.height
 }
 
 /// The state of a cell on the map.
-fn state_of(size: &Size, p: &Spot) -> u32
+fn state_of(size: &Size, p: &GridCell) -> u32
     requires states { size.now.width * size.now.height ≤ 8388608 }
     requires on_map { is_on_map size.now p.now ≡ true }
     ensures state { result ≡ state_of size.now p.now }
@@ -84,11 +84,11 @@ fn state_of(size: &Size, p: &Spot) -> u32
 }
 
 /// The start's word and cell.
-#[tactic(auto, unfolding(crate::specs::Format::start_spot_format))]
-fn start_spot(reader: &mut Reader) -> Result<Placed<Spot>, EnvFault>
-    ensures read { Gives NoMemory (λ x. x) result reader.new (reads told start_spot_format reader.old) }
+#[tactic(auto, unfolding(crate::specs::Format::start_grid_cell_format))]
+fn start_grid_cell(reader: &mut Reader) -> Result<Placed<GridCell>, EnvFault>
+    ensures read { Gives NoMemory (λ x. x) result reader.new (reads told start_grid_cell_format reader.old) }
 {
-    spot(reader, b"start(cells):")
+    grid_cell(reader, b"start(cells):")
 }
 
 /// The start, which must be on the map.
@@ -98,19 +98,19 @@ fn start(reader: &mut Reader, size: &Size) -> Result<u32, EnvFault>
     ensures read { Gives NoMemory (λ x. x) result reader.new (reads told (start_format size.now) reader.old) }
     ensures inside { IfOk result (λ s. s < size.now.width * size.now.height) }
 {
-    let spot = start_spot(reader)?;
-    if !is_on_map(size, &spot.value) {
-        return Err(EnvFault::StartOff(spot.place));
+    let grid_cell = start_grid_cell(reader)?;
+    if !is_on_map(size, &grid_cell.value) {
+        return Err(EnvFault::StartOff(grid_cell.place));
     }
-    Ok(state_of(size, &spot.value))
+    Ok(state_of(size, &grid_cell.value))
 }
 
 /// The end's word and cell.
-#[tactic(auto, unfolding(crate::specs::Format::end_spot_format))]
-fn end_spot(reader: &mut Reader) -> Result<Placed<Spot>, EnvFault>
-    ensures read { Gives NoMemory (λ x. x) result reader.new (reads told end_spot_format reader.old) }
+#[tactic(auto, unfolding(crate::specs::Format::end_grid_cell_format))]
+fn end_grid_cell(reader: &mut Reader) -> Result<Placed<GridCell>, EnvFault>
+    ensures read { Gives NoMemory (λ x. x) result reader.new (reads told end_grid_cell_format reader.old) }
 {
-    spot(reader, b"end(cells):")
+    grid_cell(reader, b"end(cells):")
 }
 
 /// The end, which must be on the map.
@@ -120,11 +120,11 @@ fn end(reader: &mut Reader, size: &Size) -> Result<u32, EnvFault>
     ensures read { Gives NoMemory (λ x. x) result reader.new (reads told (end_format size.now) reader.old) }
     ensures inside { IfOk result (λ s. s < size.now.width * size.now.height) }
 {
-    let spot = end_spot(reader)?;
-    if !is_on_map(size, &spot.value) {
-        return Err(EnvFault::EndOff(spot.place));
+    let grid_cell = end_grid_cell(reader)?;
+    if !is_on_map(size, &grid_cell.value) {
+        return Err(EnvFault::EndOff(grid_cell.place));
     }
-    Ok(state_of(size, &spot.value))
+    Ok(state_of(size, &grid_cell.value))
 }
 
 /// All numbers but the costs.

@@ -1,6 +1,7 @@
 //! Which arcs read a cell.
 
-ghost use Rattle.std.specs.Prelude.{◌≡◌, ◌≢◌, ℕ, ◌+◌, ◌*◌, ◌%◌, ◌<◌, ◌++◌, ◌⊎◌, [], pos, IfSome, IfNone, OnOk, OnErr};
+ghost use Rattle.std.specs.Prelude.{◌≡◌, ◌≢◌, ℕ, ◌+◌, ◌*◌, ◌%◌, ◌<◌, ◌++◌, ◌⊎◌, [], pos};
+ghost use Rattle.std.specs.Prelude.{IfSome, IfNone, OnOk, OnErr};
 ghost use Rattle.std.specs.List.{cons_option};
 ghost use Rattle.sbpl_terrain.specs.sbpl_graph.Network.{IsArc};
 ghost use Rattle.sbpl_nav2d.specs.Directions.{by, is_diagonal, IsNear, IsStep};

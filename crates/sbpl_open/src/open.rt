@@ -1,6 +1,7 @@
 //! The open states of a search.
 
-ghost use Rattle.std.specs.Prelude.{◌≡◌, ℕ, ◌^◌, ◌<◌, ◌≤◌, ◌↔◌, IsTrue, IsSome, IsNone, IfOk, IfSome, MatchOption, Some};
+ghost use Rattle.std.specs.Prelude.{◌≡◌, ℕ, ◌^◌, ◌<◌, ◌≤◌, ◌↔◌, IsTrue, IsSome, IsNone, IfOk, IfSome};
+ghost use Rattle.std.specs.Prelude.{MatchOption, Some};
 ghost use Rattle.std.specs.Prelude.{None, length};
 ghost use Rattle.sbpl_open.specs.OpenList.{OpenList, states_of, key_at, IsEmpty, ChangesKey, IsLeast};
 ghost use Rattle.sbpl_open.specs.Entries.{entry_at, key_of, state_at};

@@ -47,23 +47,23 @@ tight_found n h goal m arcs found.Broken same unbroken shows finds =
     let kept : g_of m finds.0.0 ≤ v_of m finds.0.0 = unbroken broken.place finds.0.0 broken.on_chain in omega arith
 
 -- a pass that leads on, and what was told of it
-module _ {Note : Type 0} (means : Meaning Note) {n : Network} {h : ℕ → ℕ} {eps : ℕ} {old new : State Note}
+module _ {Action : Type 0} (means : Meaning Action) {n : Network} {h : ℕ → ℕ} {eps : ℕ} {old new : State Action}
     {before after : Counts} {end : PassEnd} {spent : Bool} (was_spent : spent ≡ true → end ≡ Spent)
     (rested : spent ≡ false → end ≡ Rest) (fresh : IsStartFresh old.labels) (sized : states_of new.labels ≡ n.states)
     (passed : IsPassed means (query n h eps old.goal) old new before after end) where
-  ends_pass : (b : Bool) → spent ≡ b → EndsPass means (query n h eps old.goal) new.notes new.labels b
+  ends_pass : (b : Bool) → spent ≡ b → EndsPass means (query n h eps old.goal) new.actions new.labels b
   ends_pass true is = passed.goes_on (was_spent is)
   ends_pass false is = passed.rests (rested is)
 
-  module _ {ask : Ask} {expanded : ℕ} {found : Found} {trace : List Note} {arcs : List ℕ}
-      (counted : expanded ≡ means.expansions new.notes) (told : trace ≡ (if ask.traced then new.notes else [])) where
+  module _ {ask : Ask} {expanded : ℕ} {found : Found} {trace : List Action} {arcs : List ℕ}
+      (counted : expanded ≡ means.expansions new.actions) (told : trace ≡ (if ask.traced then new.actions else [])) where
     to_own_goal : WalkFinds n h old.goal new.labels arcs found
         → IsIteration means (inquiry_of n h old.goal ask) eps old new before after arcs spent
         (record { inflation = eps; expanded = expanded; found = found; trace = trace })
     to_own_goal finds = record {
       pass = record {
         inflation = refl;
-        notes = new.notes;
+        actions = new.actions;
         leads = passed.leads;
         ends = ends_pass spent refl;
         expanded = counted;

@@ -9,7 +9,7 @@ use Rattle.sbpl_search.specs.Meaning.{Meaning}
 use Rattle.sbpl_search.specs.State.{State}
 use Rattle.sbpl_plan.specs.declared.found.Found.{Found}
 use Rattle.sbpl_plan.specs.declared.found.Found.TheVariants as found
-use Rattle.sbpl_plan.specs.declared.passes.Pass.{Pass}
+use Rattle.sbpl_plan.specs.declared.passes.PassRecord.{PassRecord}
 use Rattle.sbpl_plan.specs.Looking.{WalkFinds}
 use Rattle.sbpl_plan.specs.Passing.{EndWith, Inquiry, IsPass}
 use Rattle.sbpl_plan.specs.ReadyAfter.{IsReadyAfter}
@@ -21,12 +21,12 @@ IsTight found.None = Unit {0}
 IsTight found.Broken = ⊥
 
 -- a pass led from the one state of a search to the other, and this is its record, with the arcs of the path that the walk found; it expands no more states than it may
-pub record IsIteration {Note : Type 0} (means : Meaning Note) (q : Inquiry) (eps : ℕ) (old new : State Note) (before after : Counts) (arcs : List ℕ) (spent : Bool) (p : Pass Note) : Type 0 where
+pub record IsIteration {Action : Type 0} (means : Meaning Action) (q : Inquiry) (eps : ℕ) (old new : State Action) (before after : Counts) (arcs : List ℕ) (spent : Bool) (p : PassRecord Action) : Type 0 where
   pub pass : IsPass means q eps old.labels new.labels spent p
   pub found : WalkFinds q.network q.guide q.goal new.labels arcs p.found
   pub leaves : IsReadyAfter means q.network p.expanded old new before after
   pub supported : AreSupported q.network new.labels.start (g_of new.labels) (v_of new.labels)
-  pub traced : EndWith means q.ask (p ∷ []) new.notes
+  pub traced : EndWith means q.ask (p ∷ []) new.actions
   pub is_spent : spent ≡ true → IsSpent after
   pub few : p.expanded ≤ means.most * states_of old.labels
   pub unfinished : spent ≡ true → p.expanded < means.most * states_of old.labels

@@ -5,13 +5,13 @@ use Rattle.sbpl_search.specs.sbpl_graph.declared.TheConstants.{FAR}
 use Rattle.sbpl_search.specs.sbpl_graph.Bound.{IsBound}
 use Rattle.sbpl_search.specs.sbpl_graph.Network.{Network}
 use Rattle.sbpl_search.specs.sbpl_labels.Marks.{Marks, g_of}
-use Rattle.sbpl_plan.specs.declared.passes.Pass.{Pass}
+use Rattle.sbpl_plan.specs.declared.passes.PassRecord.{PassRecord}
 use Rattle.sbpl_plan.specs.Looking.{IsPathFound}
 use Rattle.sbpl_plan.specs.Observed.{AreTold, IsTold}
 
-module _ {Note O : Type 0} (told : O → (pass cost bound : ℕ) → O → Type 0) where
+module _ {Action O : Type 0} (told : O → (pass cost bound : ℕ) → O → Type 0) where
   -- told of some passes, and then of more
-  pub told_both : (k : ℕ) (ps qs : List (Pass Note)) (a b c : O) → AreTold told k ps a b
+  pub told_both : (k : ℕ) (ps qs : List (PassRecord Action)) (a b c : O) → AreTold told k ps a b
       → AreTold told (k + length ps) qs b c → AreTold told k (ps ++ qs) a c
   told_both k [] qs a b c first rest =
       subst (λ (x : O). AreTold told k qs x c) first
@@ -24,7 +24,7 @@ module _ {Note O : Type 0} (told : O → (pass cost bound : ℕ) → O → Type 
   )
 
   -- told of the passes that were made so far, and then of one more
-  pub told_more : {number : ℕ} (ps : List (Pass Note)) (p : Pass Note) (a b c : O) → number ≡ length ps
+  pub told_more : {number : ℕ} (ps : List (PassRecord Action)) (p : PassRecord Action) (a b c : O) → number ≡ length ps
       → AreTold told 0 ps a b → IsTold told number p.found b c → AreTold told 0 (ps ++ p ∷ []) a c
   told_more {number} ps p a b c many first one =
       told_both 0 ps (p ∷ []) a b c first (

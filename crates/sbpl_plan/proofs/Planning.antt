@@ -16,7 +16,7 @@ use Rattle.sbpl_search.specs.sbpl_graph.Certificate.{BoundHolds, NoneHolds}
 use Rattle.sbpl_search.specs.sbpl_graph.Laws.{IsConsistent, IsSound}
 use Rattle.sbpl_search.specs.sbpl_graph.Network.{Network}
 use Rattle.sbpl_plan.specs.declared.ask.Ask.{Ask}
-use Rattle.sbpl_plan.specs.declared.passes.Pass.{Pass}
+use Rattle.sbpl_plan.specs.declared.passes.PassRecord.{PassRecord}
 use Rattle.sbpl_plan.specs.Asked.{IsAsk, lowered, most_passes}
 use Rattle.sbpl_plan.specs.declared.result.FoundPath.{FoundPath}
 use Rattle.sbpl_plan.specs.declared.result.Outcome.{Outcome}
@@ -49,7 +49,7 @@ more_passes step eps some low other = elim (cases_lt eps (1000 + step)) [
       omega arith
 ]
 
-expansions_of_both : {Note : Type 0} (ps qs : List (Pass Note)) → expansions (ps ++ qs) ≡ expansions ps + expansions qs
+expansions_of_both : {Action : Type 0} (ps qs : List (PassRecord Action)) → expansions (ps ++ qs) ≡ expansions ps + expansions qs
 expansions_of_both [] qs = omega arith
 expansions_of_both (p ∷ ps) qs = let more = expansions_of_both ps qs in omega arith
 
@@ -77,12 +77,12 @@ one_more a b l s sum count most few = rw (count, add-mul l 1 s) (let one : 1 * s
 one_less : {c k : ℕ} (a b l s : ℕ) → c ≡ a + b → k ≡ l + 1 → a ≤ l * s → b < s → c < k * s
 one_less a b l s sum count most few = rw (count, add-mul l 1 s) (let one : 1 * s ≡ s = omega arith in omega arith)
 
-expansions_more : {Note : Type 0} (ps : List (Pass Note)) (p : Pass Note)
+expansions_more : {Action : Type 0} (ps : List (PassRecord Action)) (p : PassRecord Action)
     → expansions (ps ++ p ∷ []) ≡ expansions ps + p.expanded
 expansions_more ps p = let both = expansions_of_both ps (p ∷ []) in omega arith
 
 -- a search that goes on twice
-ready_twice : {Note : Type 0} (means : Meaning Note) (n : Network) (a b c : ℕ) (old mid new : State Note)
+ready_twice : {Action : Type 0} (means : Meaning Action) (n : Network) (a b c : ℕ) (old mid new : State Action)
     (before between after : Counts) → c ≡ a + b → IsReadyAfter means n a old mid before between
     → IsReadyAfter means n b mid new between after → IsReadyAfter means n c old new before after
 ready_twice means n a b c old mid new before between after sum one two = record {
@@ -95,24 +95,24 @@ ready_twice means n a b c old mid new before between after sum one two = record 
 }
 
 -- passes were made, none of them the last, and the next one has this inflation
-pub record AreGoingOn {Note : Type 0} (means : Meaning Note) (q : Inquiry) (old now : State Note)
-    (before after : Counts) (passes : List (Pass Note)) (eps : ℕ) : Type 0 where
-  pub leads : (ps : List (Pass Note)) (new : Marks) (spent : Bool) → ArePasses means q eps now.labels ps new spent
+pub record AreGoingOn {Action : Type 0} (means : Meaning Action) (q : Inquiry) (old now : State Action)
+    (before after : Counts) (passes : List (PassRecord Action)) (eps : ℕ) : Type 0 where
+  pub leads : (ps : List (PassRecord Action)) (new : Marks) (spent : Bool) → ArePasses means q eps now.labels ps new spent
       → ArePasses means q q.ask.first old.labels (passes ++ ps) new spent
-  pub prefix : (ps : List (Pass Note)) (new : Marks) → AreFirstPasses means q eps now.labels ps new
+  pub prefix : (ps : List (PassRecord Action)) (new : Marks) → AreFirstPasses means q eps now.labels ps new
       → AreFirstPasses means q q.ask.first old.labels (passes ++ ps) new
   pub leaves : IsReadyAfter means q.network (expansions passes) old now before after
   pub many : length passes + most_passes q.ask.step eps ≤ most_passes q.ask.step q.ask.first
   pub spread : expansions passes ≤ length passes * (means.most * states_of old.labels)
 
 -- the last of some passes did this, with others before it
-end_with_more : {Note : Type 0} (means : Meaning Note) (ask : Ask) (passes : List (Pass Note)) (p : Pass Note)
-    (notes : List Note) → EndWith means ask (p ∷ []) notes → EndWith means ask (passes ++ p ∷ []) notes
-end_with_more means ask [] p notes is = is
-end_with_more means ask (a ∷ []) p notes is = is
-end_with_more means ask (a ∷ b ∷ ps) p notes is = end_with_more means ask (b ∷ ps) p notes is
+end_with_more : {Action : Type 0} (means : Meaning Action) (ask : Ask) (passes : List (PassRecord Action)) (p : PassRecord Action)
+    (actions : List Action) → EndWith means ask (p ∷ []) actions → EndWith means ask (passes ++ p ∷ []) actions
+end_with_more means ask [] p actions is = is
+end_with_more means ask (a ∷ []) p actions is = is
+end_with_more means ask (a ∷ b ∷ ps) p actions is = end_with_more means ask (b ∷ ps) p actions is
 
-module _ {Note : Type 0} (means : Meaning Note) {q : Inquiry} {old : State Note} {before : Counts} where
+module _ {Action : Type 0} (means : Meaning Action) {q : Inquiry} {old : State Action} {before : Counts} where
   pub begins : means.ready q.network old.labels before.run → IsStartFresh old.labels
       → AreGoingOn means q old old before before [] q.ask.first
   begins ready fresh = record {
@@ -130,10 +130,10 @@ module _ {Note : Type 0} (means : Meaning Note) {q : Inquiry} {old : State Note}
     spread = omega arith;
   }
 
-  module _ {now new : State Note} {mid after : Counts} {passes : List (Pass Note)} {eps : ℕ}
+  module _ {now new : State Action} {mid after : Counts} {passes : List (PassRecord Action)} {eps : ℕ}
       (so : AreGoingOn means q old now before mid passes eps) where
     -- memory ran out in the pass after them
-    pub cut_after : (Told : List (Pass Note) → Type 0) → Told passes → q.goal ≡ old.goal
+    pub cut_after : (Told : List (PassRecord Action) → Type 0) → Told passes → q.goal ≡ old.goal
         → means.cut (query q.network q.guide eps now.goal) now new mid after
         → RunsOutOfMemory means q q.ask.first old new before after Told
     cut_after Told told own cut = inr (record {
@@ -143,7 +143,7 @@ module _ {Note : Type 0} (means : Meaning Note) {q : Inquiry} {old : State Note}
         passes = passes;
         told = told;
         made =
-            subst (λ (l : List (Pass Note)). AreFirstPasses means q q.ask.first old.labels l now.labels)
+            subst (λ (l : List (PassRecord Action)). AreFirstPasses means q q.ask.first old.labels l now.labels)
             (append-nil passes) (so.prefix [] now.labels refl);
         leaves = so.leaves;
       };
@@ -153,14 +153,14 @@ module _ {Note : Type 0} (means : Meaning Note) {q : Inquiry} {old : State Note}
           (so.leaves.same_goal ∙ sym own) cut;
     })
 
-    module _ {arcs : List ℕ} {spent : Bool} {p : Pass Note}
+    module _ {arcs : List ℕ} {spent : Bool} {p : PassRecord Action}
         (t : IsIteration means q eps now new mid after arcs spent p) where
       leaves_more : IsReadyAfter means q.network (expansions (passes ++ p ∷ [])) old new before after
       leaves_more =
           ready_twice means q.network _ _ _ old now new before mid after (expansions_more passes p) so.leaves t.leaves
 
       -- memory ran out after them and one more pass
-      pub runs_out_after : (Told : List (Pass Note) → Type 0) → Told (passes ++ p ∷ [])
+      pub runs_out_after : (Told : List (PassRecord Action) → Type 0) → Told (passes ++ p ∷ [])
           → RunsOutOfMemory means q q.ask.first old new before after Told
       runs_out_after Told told = inl (record {
         passes = passes ++ p ∷ [];
@@ -184,9 +184,9 @@ module _ {Note : Type 0} (means : Meaning Note) {q : Inquiry} {old : State Note}
           subst (λ (b : Bool). EndsPlan q eps new.labels b p.found → ⊥) rested not in
           record {
             leads =
-                λ ps m last made. subst (λ (l : List (Pass Note)). ArePasses means q q.ask.first old.labels l m last)
+                λ ps m last made. subst (λ (l : List (PassRecord Action)). ArePasses means q q.ask.first old.labels l m last)
                 (sym (append_assoc passes (p ∷ []) ps)) (so.leads (p ∷ ps) m last (inr (new.labels, pass, on, made)));
-            prefix = λ ps m made. subst (λ (l : List (Pass Note)). AreFirstPasses means q q.ask.first old.labels l m)
+            prefix = λ ps m made. subst (λ (l : List (PassRecord Action)). AreFirstPasses means q q.ask.first old.labels l m)
                 (sym (append_assoc passes (p ∷ []) ps)) (so.prefix (p ∷ ps) m (inr (new.labels, pass, on, made)));
             leaves = leaves_more;
             many =
@@ -233,7 +233,7 @@ module _ {Note : Type 0} (means : Meaning Note) {q : Inquiry} {old : State Note}
               outcome_is_true q.network q.guide q.goal new.labels old.labels.start o bounds nones sound consistent sized
               t.supported leaves_more.start is;
           answered = known agrees;
-          traced = end_with_more means q.ask passes p new.notes t.traced;
+          traced = end_with_more means q.ask passes p new.actions t.traced;
           leaves = leaves_more;
           supported = t.supported;
           spent = t.is_spent;
@@ -248,8 +248,8 @@ on_err (Ok x) P h = tt
 on_err (Err e) P h = h
 
 -- before the first pass no part of a plan was made
-pub part_of_none : {Note : Type 0} (means : Meaning Note) (q : Inquiry) (eps : ℕ) (old : State Note) (before : Counts)
-    (Told : List (Pass Note) → Type 0)
+pub part_of_none : {Action : Type 0} (means : Meaning Action) (q : Inquiry) (eps : ℕ) (old : State Action) (before : Counts)
+    (Told : List (PassRecord Action) → Type 0)
     → Told [] → means.ready q.network old.labels before.run → IsStartFresh old.labels
     → IsPartOfPlan means q eps old old before before Told
 part_of_none means q eps old before Told told ready fresh = record {

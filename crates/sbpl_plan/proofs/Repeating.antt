@@ -8,7 +8,7 @@ use Rattle.sbpl_search.specs.Meaning.{Meaning}
 use Rattle.sbpl_search.specs.Query.{Query}
 use Rattle.sbpl_plan.specs.declared.found.Found.{Found}
 use Rattle.sbpl_plan.specs.declared.found.Found.TheVariants as found
-use Rattle.sbpl_plan.specs.declared.passes.Pass.{Pass}
+use Rattle.sbpl_plan.specs.declared.passes.PassRecord.{PassRecord}
 use Rattle.sbpl_plan.specs.Asked.{lowered}
 use Rattle.sbpl_plan.specs.Looking.{WalkFinds}
 use Rattle.sbpl_plan.specs.Passing.{ArePasses, EndsPass, EndsPlan, Inquiry, IsPass, expansions, query_at}
@@ -20,18 +20,18 @@ record FillsRoom (room count : ℕ) (spent : Bool) : Type 0 where
   within : count ≤ room
   used_up : spent ≡ true → count ≡ room
 
--- two passes with the same notes, labels and end
-record AreOneRun {Note : Type 0} (xs ys : List Note) (a b : Marks) (spent spent' : Bool) : Type 0 where
-  notes : xs ≡ ys
+-- two passes with the same actions, labels and end
+record AreOneRun {Action : Type 0} (xs ys : List Action) (a b : Marks) (spent spent' : Bool) : Type 0 where
+  actions : xs ≡ ys
   labels : a ≡ b
   both : spent ≡ spent'
 
-module _ {Note : Type 0} (means : Meaning Note) (laws : AreDetermined means) (q : Query) (old a b : Marks)
-    (xs ys : List Note) (room : ℕ) (left : means.leads q xs old a) (right : means.leads q ys old b) where
+module _ {Action : Type 0} (means : Meaning Action) (laws : AreDetermined means) (q : Query) (old a b : Marks)
+    (xs ys : List Action) (room : ℕ) (left : means.leads q xs old a) (right : means.leads q ys old b) where
   as_many : means.expansions xs ≡ means.expansions ys → (spent : Bool) → AreOneRun xs ys a b spent spent
   as_many same spent =
       let one = laws.one q old a b xs ys left right same in
-      record { notes = one.0; labels = one.1; both = refl }
+      record { actions = one.0; labels = one.1; both = refl }
 
   -- nothing is left to expand where there is rest
   on_not_rest : means.expansions xs ≡ means.expansions ys → means.goes_on q xs a → means.rests q ys b → ⊥
@@ -64,49 +64,49 @@ module _ {Note : Type 0} (means : Meaning Note) (laws : AreDetermined means) (q 
       as_many (omega arith) false
 
 -- two passes that are the same
-record AreOnePass {Note : Type 0} (p p' : Pass Note) (a b : Marks) (spent spent' : Bool) : Type 0 where
+record AreOnePass {Action : Type 0} (p p' : PassRecord Action) (a b : Marks) (spent spent' : Bool) : Type 0 where
   pass : p ≡ p'
   labels : a ≡ b
   both : spent ≡ spent'
 
 -- a last pass expands what all expand
-expansions_of_last : {Note : Type 0} (p : Pass Note) (ps : List (Pass Note)) → ps ≡ []
+expansions_of_last : {Action : Type 0} (p : PassRecord Action) (ps : List (PassRecord Action)) → ps ≡ []
     → expansions (p ∷ ps) ≡ p.expanded
 expansions_of_last p ps last = rw last (omega arith)
 
 -- a pass that is not the last fills no room
-not_last_fills : {Note : Type 0} (room : ℕ) (p : Pass Note) (ps : List (Pass Note)) (spent : Bool)
+not_last_fills : {Action : Type 0} (room : ℕ) (p : PassRecord Action) (ps : List (PassRecord Action)) (spent : Bool)
     → FillsRoom room (expansions (p ∷ ps)) spent → FillsRoom room p.expanded false
 not_last_fills room p ps spent fills =
     record { within = omega (arith, fills.within); used_up = λ e. absurd (false≢true e) }
 
-rest_fills : {Note : Type 0} (room : ℕ) (p : Pass Note) (ps : List (Pass Note)) (spent : Bool)
+rest_fills : {Action : Type 0} (room : ℕ) (p : PassRecord Action) (ps : List (PassRecord Action)) (spent : Bool)
     → FillsRoom room (expansions (p ∷ ps)) spent → FillsRoom (room - p.expanded) (expansions ps) spent
 rest_fills room p ps spent fills =
     record { within = omega (arith, fills.within); used_up = λ e. omega (arith, fills.used_up e) }
 
-last_alike : {Note : Type 0} (q : Inquiry) (eps : ℕ) {a b : Marks} {spent spent' : Bool} {p p' : Pass Note}
+last_alike : {Action : Type 0} (q : Inquiry) (eps : ℕ) {a b : Marks} {spent spent' : Bool} {p p' : PassRecord Action}
     → AreOnePass p p' a b spent spent' → EndsPlan q eps a spent p.found → EndsPlan q eps b spent' p'.found
 last_alike q eps one last = rw (← one.labels, ← one.both, ← one.pass) last
 
-module _ {Note : Type 0} (means : Meaning Note) (laws : AreDetermined means) (q : Inquiry) where
-  one_pass : (eps : ℕ) (old a b : Marks) (spent spent' : Bool) (p p' : Pass Note) (room : ℕ)
+module _ {Action : Type 0} (means : Meaning Action) (laws : AreDetermined means) (q : Inquiry) where
+  one_pass : (eps : ℕ) (old a b : Marks) (spent spent' : Bool) (p p' : PassRecord Action) (room : ℕ)
       → back_of old old.start ≡ None
       → IsPass means q eps old a spent p → IsPass means q eps old b spent' p' → FillsRoom room p.expanded spent
       → FillsRoom room p'.expanded spent'
       → AreOnePass p p' a b spent spent'
   one_pass eps old a b spent spent' p p' room none is is' fills fills' =
-      let own : FillsRoom room (means.expansions is.notes) spent = rw (← is.expanded) fills in
-      let own' : FillsRoom room (means.expansions is'.notes) spent' = rw (← is'.expanded) fills' in
+      let own : FillsRoom room (means.expansions is.actions) spent = rw (← is.expanded) fills in
+      let own' : FillsRoom room (means.expansions is'.actions) spent' = rw (← is'.expanded) fills' in
       let one =
-      one_end means laws (query_at q eps) old a b is.notes is'.notes room is.leads is'.leads spent spent'
+      one_end means laws (query_at q eps) old a b is.actions is'.actions room is.leads is'.leads spent spent'
       is.ends is'.ends own own' in
-      let at_start = laws.no_arc (query_at q eps) old a is.notes is.leads none in
+      let at_start = laws.no_arc (query_at q eps) old a is.actions is.leads none in
       let finds : WalkFinds q.network q.guide q.goal a is'.arcs p'.found = rw one.labels is'.found in
       let inflation : p.inflation ≡ p'.inflation = is.inflation ∙ sym is'.inflation in
-      let expanded : p.expanded ≡ p'.expanded = is.expanded ∙ ap means.expansions one.notes ∙ sym is'.expanded in
+      let expanded : p.expanded ≡ p'.expanded = is.expanded ∙ ap means.expansions one.actions ∙ sym is'.expanded in
       let told : p.trace ≡ p'.trace =
-      is.told ∙ ap (λ (notes : List Note). if q.ask.traced then notes else []) one.notes ∙ sym is'.told in
+      is.told ∙ ap (λ (actions : List Action). if q.ask.traced then actions else []) one.actions ∙ sym is'.told in
       let seen : p.found ≡ p'.found =
       one_find q.network q.guide q.goal a at_start is.arcs is'.arcs p.found p'.found is.found finds in
       record {
@@ -115,7 +115,7 @@ module _ {Note : Type 0} (means : Meaning Note) (laws : AreDetermined means) (q 
         both = one.both;
       }
 
-  one_plan : (ps qs : List (Pass Note)) (eps : ℕ) (old a b : Marks) (spent spent' : Bool) (room : ℕ)
+  one_plan : (ps qs : List (PassRecord Action)) (eps : ℕ) (old a b : Marks) (spent spent' : Bool) (room : ℕ)
       → back_of old old.start ≡ None
       → ArePasses means q eps old ps a spent → ArePasses means q eps old qs b spent'
       → FillsRoom room (expansions ps) spent → FillsRoom room (expansions qs) spent'
@@ -144,7 +144,7 @@ module _ {Note : Type 0} (means : Meaning Note) (laws : AreDetermined means) (q 
       let one =
       one_pass eps old left.0 right.0 false false p p' room none left.1 right.1 (not_last_fills room p ps spent fills)
       (not_last_fills room p' qs spent' fills') in
-      let at_start = laws.no_arc (query_at q eps) old left.0 left.1.notes left.1.leads none in
+      let at_start = laws.no_arc (query_at q eps) old left.0 left.1.actions left.1.leads none in
       let later : ArePasses means q (lowered q.ask.step eps) left.0 qs b spent' = rw one.labels right.3 in
       let fills_later : FillsRoom (room - p.expanded) (expansions qs) spent' =
       rw one.pass (rest_fills room p' qs spent' fills') in
@@ -161,37 +161,37 @@ guided_find q h m arcs (found.Path cost bound) alike finds = guided_path h alike
 guided_find q h m arcs found.None alike finds = finds
 guided_find q h m arcs found.Broken alike finds = finds
 
-module _ {Note : Type 0} (means : Meaning Note) (laws : AreDetermined means) (q : Inquiry) (h : ℕ → ℕ) where
-  guided_end : (eps : ℕ) (notes : List Note) (m : Marks) (spent : Bool) → AreAlikeGuides (states_of m) q.guide h
-      → EndsPass means (query_at q eps) notes m spent
-      → EndsPass means (query_at (record q { guide = h }) eps) notes m spent
-  guided_end eps notes m true alike ends = laws.guided_goes_on (query_at q eps) h m notes alike ends
-  guided_end eps notes m false alike ends = laws.guided_rests (query_at q eps) h m notes alike ends
+module _ {Action : Type 0} (means : Meaning Action) (laws : AreDetermined means) (q : Inquiry) (h : ℕ → ℕ) where
+  guided_end : (eps : ℕ) (actions : List Action) (m : Marks) (spent : Bool) → AreAlikeGuides (states_of m) q.guide h
+      → EndsPass means (query_at q eps) actions m spent
+      → EndsPass means (query_at (record q { guide = h }) eps) actions m spent
+  guided_end eps actions m true alike ends = laws.guided_goes_on (query_at q eps) h m actions alike ends
+  guided_end eps actions m false alike ends = laws.guided_rests (query_at q eps) h m actions alike ends
 
   -- guides alike before a pass are alike after it
-  alike_after : (eps : ℕ) (old new : Marks) (spent : Bool) (p : Pass Note) → AreAlikeGuides (states_of old) q.guide h
+  alike_after : (eps : ℕ) (old new : Marks) (spent : Bool) (p : PassRecord Action) → AreAlikeGuides (states_of old) q.guide h
       → IsPass means q eps old new spent p → AreAlikeGuides (states_of new) q.guide h
   alike_after eps old new spent p alike is =
       λ s inside.
-      alike s (subst (λ (count : ℕ). s < count) (laws.states (query_at q eps) old new is.notes is.leads) inside)
+      alike s (subst (λ (count : ℕ). s < count) (laws.states (query_at q eps) old new is.actions is.leads) inside)
 
-  guided_pass : (eps : ℕ) (old new : Marks) (spent : Bool) (p : Pass Note) → AreAlikeGuides (states_of old) q.guide h
+  guided_pass : (eps : ℕ) (old new : Marks) (spent : Bool) (p : PassRecord Action) → AreAlikeGuides (states_of old) q.guide h
       → IsPass means q eps old new spent p
       → IsPass means (record q { guide = h }) eps old new spent p
   guided_pass eps old new spent p alike is =
       let after = alike_after eps old new spent p alike is in
       record {
         inflation = is.inflation;
-        notes = is.notes;
-        leads = laws.guided (query_at q eps) h old new is.notes alike is.leads;
-        ends = guided_end eps is.notes new spent after is.ends;
+        actions = is.actions;
+        leads = laws.guided (query_at q eps) h old new is.actions alike is.leads;
+        ends = guided_end eps is.actions new spent after is.ends;
         expanded = is.expanded;
         told = is.told;
         arcs = is.arcs;
         found = guided_find q h new is.arcs p.found after is.found;
       }
 
-  guided_passes : (ps : List (Pass Note)) (eps : ℕ) (old new : Marks) (spent : Bool)
+  guided_passes : (ps : List (PassRecord Action)) (eps : ℕ) (old new : Marks) (spent : Bool)
       → AreAlikeGuides (states_of old) q.guide h → ArePasses means q eps old ps new spent
       → ArePasses means (record q { guide = h }) eps old ps new spent
   guided_passes [] eps old new spent alike made = made
@@ -207,7 +207,7 @@ module _ {Note : Type 0} (means : Meaning Note) (laws : AreDetermined means) (q 
       )
 
 -- the room is the lesser of the budget and of what the run has left
-room_filled : {Note : Type 0} (budget before : ℕ) (ps : List (Pass Note)) (spent : Bool)
+room_filled : {Action : Type 0} (budget before : ℕ) (ps : List (PassRecord Action)) (spent : Bool)
     → AreWithin budget before ps spent → FillsRoom (min budget (2 ^ 30 - before)) (expansions ps) spent
 room_filled budget before ps spent within = record {
   within = omega (arith, within.of_plan, within.of_run);
@@ -218,7 +218,7 @@ room_filled budget before ps spent within = record {
       (within.used_up e);
 }
 
-pub passes_are_one : {Note : Type 0} (means : Meaning Note) → AreDetermined means → PassesAreOne means
+pub passes_are_one : {Action : Type 0} (means : Meaning Action) → AreDetermined means → PassesAreOne means
 passes_are_one means laws q h budget before eps old a b ps qs spent spent' none alike left right within within' =
     one_plan means laws (record q { guide = h }) ps qs eps old a b spent spent' (min budget (2 ^ 30 - before)) none
     (guided_passes means laws q h ps eps old a spent alike left) right

@@ -4,7 +4,7 @@ use Rattle.sbpl_search.specs.sbpl_graph.Network.{Network}
 use Rattle.sbpl_search.specs.sbpl_labels.Marks.{Marks, states_of, back_of}
 use Rattle.sbpl_search.specs.Determined.{AreAlikeGuides}
 use Rattle.sbpl_search.specs.Meaning.{Meaning}
-use Rattle.sbpl_plan.specs.declared.passes.Pass.{Pass}
+use Rattle.sbpl_plan.specs.declared.passes.PassRecord.{PassRecord}
 use Rattle.sbpl_plan.specs.declared.result.FoundPath.{FoundPath}
 use Rattle.sbpl_plan.specs.declared.result.Outcome.{Outcome}
 use Rattle.sbpl_plan.specs.Outcomes.{IsResultOf}
@@ -12,20 +12,20 @@ use Rattle.sbpl_plan.specs.Passing.{ArePasses, Inquiry, expansions}
 
 -- passes of a plan with this budget, in a run that has expanded this many states before: they expand no more than the budget
 -- and what the run has left, and are spent only where the one or the other is used up
-pub record AreWithin {Note : Type 0} (budget before : ℕ) (passes : List (Pass Note)) (spent : Bool) : Type 0 where
+pub record AreWithin {Action : Type 0} (budget before : ℕ) (passes : List (PassRecord Action)) (spent : Bool) : Type 0 where
   pub of_plan : expansions passes ≤ budget
   pub of_run : before + expansions passes ≤ 2 ^ 30
   pub used_up : spent ≡ true → (expansions passes ≡ budget) ⊎ (before + expansions passes ≡ 2 ^ 30)
 
 -- two plans have the same passes, leave the same labels, and both are spent or neither
-pub record AreOnePlan {Note : Type 0} (ps qs : List (Pass Note)) (a b : Marks) (spent spent' : Bool) : Type 0 where
+pub record AreOnePlan {Action : Type 0} (ps qs : List (PassRecord Action)) (a b : Marks) (spent spent' : Bool) : Type 0 where
   pub passes : ps ≡ qs
   pub labels : a ≡ b
   pub both : spent ≡ spent'
 
 -- two plans of a planner that begin with the same labels, the start's with no back arc, are the same where the guides, the budget and what the run has left are the same
-abbrev pub PassesAreOne : {Note : Type 0} → Meaning Note → Type 0
-PassesAreOne {Note = Note} means = (q : Inquiry) (h : ℕ → ℕ) (budget before eps : ℕ) (old a b : Marks) (ps qs : List (Pass Note)) (spent spent' : Bool)
+abbrev pub PassesAreOne : {Action : Type 0} → Meaning Action → Type 0
+PassesAreOne {Action = Action} means = (q : Inquiry) (h : ℕ → ℕ) (budget before eps : ℕ) (old a b : Marks) (ps qs : List (PassRecord Action)) (spent spent' : Bool)
     → back_of old old.start ≡ None → AreAlikeGuides (states_of old) q.guide h
     → ArePasses means q eps old ps a spent → ArePasses means (record q { guide = h }) eps old qs b spent'
     → AreWithin budget before ps spent → AreWithin budget before qs spent' → AreOnePlan ps qs a b spent spent'

@@ -7,7 +7,7 @@ use Rattle.sbpl_search.specs.Meaning.{Meaning}
 use Rattle.sbpl_search.specs.Query.{Query, query}
 use Rattle.sbpl_plan.specs.declared.ask.Ask.{Ask}
 use Rattle.sbpl_plan.specs.declared.found.Found.{Found}
-use Rattle.sbpl_plan.specs.declared.passes.Pass.{Pass}
+use Rattle.sbpl_plan.specs.declared.passes.PassRecord.{PassRecord}
 use Rattle.sbpl_plan.specs.Asked.{lowered}
 use Rattle.sbpl_plan.specs.Looking.{IsEnough, WalkFinds}
 
@@ -26,17 +26,17 @@ abbrev pub query_at : Inquiry → ℕ → Query
 query_at q eps = query q.network q.guide eps q.goal
 
 -- something is left to expand, or nothing is: a pass that was spent, or that rests
-abbrev pub EndsPass : {Note : Type 0} → Meaning Note → Query → List Note → Marks → Bool → Type 0
-EndsPass means q notes m spent = MatchBool spent (means.goes_on q notes m) (means.rests q notes m)
+abbrev pub EndsPass : {Action : Type 0} → Meaning Action → Query → List Action → Marks → Bool → Type 0
+EndsPass means q actions m spent = MatchBool spent (means.goes_on q actions m) (means.rests q actions m)
 
 -- a pass of this inflation leads from the old labels to the new ones, and this is its record
-pub record IsPass {Note : Type 0} (means : Meaning Note) (q : Inquiry) (eps : ℕ) (old new : Marks) (spent : Bool) (p : Pass Note) : Type 0 where
+pub record IsPass {Action : Type 0} (means : Meaning Action) (q : Inquiry) (eps : ℕ) (old new : Marks) (spent : Bool) (p : PassRecord Action) : Type 0 where
   pub inflation : p.inflation ≡ eps
-  pub notes : List Note
-  pub leads : means.leads (query_at q eps) notes old new
-  pub ends : EndsPass means (query_at q eps) notes new spent
-  pub expanded : p.expanded ≡ means.expansions notes
-  pub told : p.trace ≡ (if q.ask.traced then notes else [])
+  pub actions : List Action
+  pub leads : means.leads (query_at q eps) actions old new
+  pub ends : EndsPass means (query_at q eps) actions new spent
+  pub expanded : p.expanded ≡ means.expansions actions
+  pub told : p.trace ≡ (if q.ask.traced then actions else [])
   pub arcs : List ℕ
   pub found : WalkFinds q.network q.guide q.goal new arcs p.found
 
@@ -45,26 +45,26 @@ abbrev pub EndsPlan : Inquiry → ℕ → Marks → Bool → Found → Type 0
 EndsPlan q eps m spent found = IsEnough q.ask.bound found ⊎ (IsCutOff (states_of m) q.goal (g_of m) (v_of m) ⊎ ((spent ≡ true) ⊎ (eps ≡ 1000)))
 
 -- these passes in turn, the first of this inflation, lead from the old labels to the new ones; the plan ends after the last, which was spent or not, and after none before it
-abbrev pub ArePasses : {Note : Type 0} → Meaning Note → Inquiry → ℕ → Marks → List (Pass Note) → Marks → Bool → Type 0
+abbrev pub ArePasses : {Action : Type 0} → Meaning Action → Inquiry → ℕ → Marks → List (PassRecord Action) → Marks → Bool → Type 0
 ArePasses means q eps old [] new spent = ⊥
 ArePasses means q eps old (p ∷ ps) new spent =
     ((ps ≡ []) × IsPass means q eps old new spent p × EndsPlan q eps new spent p.found)
     ⊎ ((mid : Marks) × IsPass means q eps old mid false p × (EndsPlan q eps mid false p.found → ⊥) × ArePasses means q (lowered q.ask.step eps) mid ps new spent)
 
 -- these passes in turn, the first of this inflation, lead from the old labels to the new ones; the plan ends after none of them but perhaps the last
-abbrev pub AreFirstPasses : {Note : Type 0} → Meaning Note → Inquiry → ℕ → Marks → List (Pass Note) → Marks → Type 0
+abbrev pub AreFirstPasses : {Action : Type 0} → Meaning Action → Inquiry → ℕ → Marks → List (PassRecord Action) → Marks → Type 0
 AreFirstPasses means q eps old [] new = new ≡ old
 AreFirstPasses means q eps old (p ∷ ps) new =
     ((ps ≡ []) × ((spent : Bool) × IsPass means q eps old new spent p))
     ⊎ ((mid : Marks) × IsPass means q eps old mid false p × (EndsPlan q eps mid false p.found → ⊥) × AreFirstPasses means q (lowered q.ask.step eps) mid ps new)
 
 -- the last of some passes did this, and tells it where it is to be told
-abbrev pub EndWith : {Note : Type 0} → Meaning Note → Ask → List (Pass Note) → List Note → Type 0
-EndWith means ask [] notes = ⊥
-EndWith means ask (p ∷ []) notes = (p.expanded ≡ means.expansions notes) × (p.trace ≡ (if ask.traced then notes else []))
-EndWith means ask (p ∷ r ∷ ps) notes = EndWith means ask (r ∷ ps) notes
+abbrev pub EndWith : {Action : Type 0} → Meaning Action → Ask → List (PassRecord Action) → List Action → Type 0
+EndWith means ask [] actions = ⊥
+EndWith means ask (p ∷ []) actions = (p.expanded ≡ means.expansions actions) × (p.trace ≡ (if ask.traced then actions else []))
+EndWith means ask (p ∷ r ∷ ps) actions = EndWith means ask (r ∷ ps) actions
 
 -- how many states passes expanded together
-abbrev pub expansions : {Note : Type 0} → List (Pass Note) → ℕ
+abbrev pub expansions : {Action : Type 0} → List (PassRecord Action) → ℕ
 expansions [] = 0
 expansions (p ∷ ps) = p.expanded + expansions ps

@@ -18,12 +18,12 @@ use Rattle.sbpl_plan.specs.ReadyAfter.{IsReadyAfter}
 -- leaves: each expansion is counted, and the labels may begin another plan
 -- spent, within, few, enough: no expansion is made beyond the budget; a plan is spent only where its budget or the run's is, and
 -- not where it may expand as many states in each pass as a pass can
-pub record IsPlanned {Note : Type 0} (means : Meaning Note) (q : Inquiry) (old new : State Note) (before after : Counts) (r : Planned Note) : Type 0 where
+pub record IsPlanned {Action : Type 0} (means : Meaning Action) (q : Inquiry) (old new : State Action) (before after : Counts) (r : Planned Action) : Type 0 where
   pub passes : ArePasses means q q.ask.first old.labels r.passes new.labels r.spent
   pub outcome : IsResultOf q.network q.guide q.goal new.labels r.outcome
   pub so : IsTrueOutcome q.network old.labels.start q.goal r.outcome
   pub answered : r.spent ≡ false → IsConclusive q.ask.bound r.outcome
-  pub traced : EndWith means q.ask r.passes new.notes
+  pub traced : EndWith means q.ask r.passes new.actions
   pub leaves : IsReadyAfter means q.network (expansions r.passes) old new before after
   pub supported : AreSupported q.network new.labels.start (g_of new.labels) (v_of new.labels)
   pub spent : r.spent ≡ true → IsSpent after

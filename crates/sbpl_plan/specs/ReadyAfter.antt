@@ -8,7 +8,7 @@ use Rattle.sbpl_search.specs.Ready.{IsStartFresh}
 use Rattle.sbpl_search.specs.State.{State}
 
 -- after this many expansions, each counted for the plan and for the run, a search may begin another pass, with the start, the states and the goal that it had
-pub record IsReadyAfter {Note : Type 0} (means : Meaning Note) (n : Network) (count : ℕ) (old new : State Note) (before after : Counts) : Type 0 where
+pub record IsReadyAfter {Action : Type 0} (means : Meaning Action) (n : Network) (count : ℕ) (old new : State Action) (before after : Counts) : Type 0 where
   pub counted : after ≡ record before { plan = before.plan + count; run = before.run + count }
   pub ready : means.ready n new.labels after.run
   pub fresh : IsStartFresh new.labels

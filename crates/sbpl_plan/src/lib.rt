@@ -3,9 +3,9 @@
 
 mod ask;
 mod ending;
-mod facts;
 mod found;
 mod inquiry;
+mod laws;
 mod look;
 mod make;
 mod observer;
@@ -13,12 +13,12 @@ mod passes;
 mod result;
 
 pub use ask::Ask;
-pub use facts::plan_is_determined;
 pub use found::Found;
 pub use inquiry::Inquiry;
+pub use laws::plan_is_determined;
 pub use make::plan;
 pub use observer::{Nobody, Observer};
-pub use passes::{Pass, Passes, Trace};
+pub use passes::{PassRecord, Passes, Trace};
 pub use result::{Arcs, FoundPath, Outcome, Planned};
 pub use sbpl_lists::{ListOf, Piece, push_all, push_bytes, push_field, push_number};
 pub use sbpl_search::{

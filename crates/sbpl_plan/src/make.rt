@@ -12,7 +12,7 @@ use crate::ending::{is_last, is_spent, lowered, outcome_of};
 use crate::inquiry::Inquiry;
 use crate::look::look;
 use crate::observer::{Observer, tell};
-use crate::passes::{Pass, Passes, trace_of};
+use crate::passes::{PassRecord, Passes, trace_of};
 use crate::result::Planned;
 use sbpl_search::{Budget, Graph, Guide, NoMemory, Search, bound_holds, none_holds};
 use std::alloc::Global;
@@ -29,7 +29,7 @@ pub fn plan<G: Graph, H: Guide, S: Search<G, H>, O: Observer>(
     search: &mut S,
     budget: &mut Budget,
     observer: &mut O,
-) -> Result<Planned<S::Note>, NoMemory>
+) -> Result<Planned<S::Action>, NoMemory>
     requires guide { H.guides inquiry.now.guide.now (G.network inquiry.now.graph.now) (S.state search.old).goal }
     requires asked { IsAsk inquiry.now.ask.now }
     requires ready { S.meaning.ready (G.network inquiry.now.graph.now) (S.state search.old).labels budget.old.run }
@@ -65,7 +65,7 @@ pub fn plan<G: Graph, H: Guide, S: Search<G, H>, O: Observer>(
         tell(observer, number, found);
         let expanded = search.expanded();
         let trace = trace_of::<G, H, S>(alloc, search, ask.traced)?;
-        passes.push(Pass {
+        passes.push(PassRecord {
             inflation: eps,
             expanded,
             found,

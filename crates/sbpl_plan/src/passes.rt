@@ -10,9 +10,9 @@ use std::alloc::Global;
 /// What a pass did, in order.
 pub type Trace<N> = ListOf<N>;
 
-/// One pass of a plan, by a search that records such notes.
+/// One pass of a plan, by a search that records such actions.
 #[derive(Debug, Drop)]
-pub struct Pass<N> {
+pub struct PassRecord<N> {
     /// The inflation, in thousandths.
     pub inflation: u32,
     /// How many states were expanded.
@@ -24,20 +24,20 @@ pub struct Pass<N> {
 }
 
 /// The passes of a plan in order.
-pub type Passes<N> = ListOf<Pass<N>>;
+pub type Passes<N> = ListOf<PassRecord<N>>;
 
 /// What a pass did, where it is to be told.
 pub(crate) fn trace_of<G: Graph, H: Guide, S: Search<G, H>>(
     alloc: Global,
     search: &S,
     traced: bool,
-) -> Result<Trace<S::Note>, NoMemory>
+) -> Result<Trace<S::Action>, NoMemory>
     requires kept { traced ≡ true → (S.state search.now).kept ≡ true }
-    ensures trace { IfOk result (λ t. t ≡ (if traced then (S.state search.now).notes else [])) }
+    ensures trace { IfOk result (λ t. t ≡ (if traced then (S.state search.now).actions else [])) }
 {
     let mut trace = Vec::new(alloc);
     if traced {
-        trace.extend_from_slice(search.notes())?;
+        trace.extend_from_slice(search.actions())?;
     }
     Ok(Trace::of(trace))
 }

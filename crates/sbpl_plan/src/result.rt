@@ -28,7 +28,7 @@ pub enum Outcome<P> {
     Unknown,
 }
 
-/// A plan that was made, by a search that records such notes.
+/// A plan that was made, by a search that records such actions.
 #[derive(Debug, Drop)]
 pub struct Planned<N> {
     /// Its passes in order.

@@ -10,7 +10,7 @@ use Rattle.sbpl_worlds.specs.sbpl_search.State.{State}
 use Rattle.sbpl_worlds.specs.sbpl_plan.declared.ask.Ask.{Ask}
 use Rattle.sbpl_worlds.specs.sbpl_plan.declared.found.Found.{Found}
 use Rattle.sbpl_worlds.specs.sbpl_plan.declared.found.Found.TheVariants as found
-use Rattle.sbpl_worlds.specs.sbpl_plan.declared.passes.Pass.{Pass}
+use Rattle.sbpl_worlds.specs.sbpl_plan.declared.passes.PassRecord.{PassRecord}
 use Rattle.sbpl_worlds.specs.sbpl_plan.Asked.{lowered}
 use Rattle.sbpl_worlds.specs.sbpl_plan.Observed.{AreTold, IsTold}
 use Rattle.sbpl_worlds.specs.sbpl_plan.OutOfMemory.{IsPartOfPlan}
@@ -19,7 +19,7 @@ use Rattle.sbpl_worlds.specs.sbpl_replan.Replanning.{Standing, StandsOutOfMemory
 use Rattle.sbpl_worlds.specs.sbpl_job.declared.job.Outputs.{Outputs}
 use Rattle.sbpl_worlds.specs.sbpl_job.declared.job.SearchJob.{SearchJob}
 use Rattle.sbpl_worlds.specs.sbpl_report.declared.record.TraceLine.{TraceLine}
-use Rattle.sbpl_worlds.specs.sbpl_promises.Asked.{Known, ask_of, from_by, to_by}
+use Rattle.sbpl_worlds.specs.sbpl_promises.Asked.{PlannerOn, ask_of, from_by, to_by}
 use Rattle.sbpl_worlds.specs.sbpl_promises.Headline.{Begins, Carried}
 use Rattle.sbpl_plans.specs.Planning.{IsPublishedInPart}
 use Rattle.sbpl_worlds.specs.sbpl_promises.Published.{Entry, founds, with_paths}
@@ -45,7 +45,7 @@ module _ {O : Type 0} (told : O → (pass cost bound : ℕ) → O → Type 0) (l
   one_found pass found.Broken a b same is = (ap log is, subst Same (sym is) same)
 
   -- told of passes in turn, it published their paths
-  pub all_found : {Note : Type 0} (pass : ℕ) (ps : List (Pass Note)) (a c : O) → Same a → AreTold told pass ps a c
+  pub all_found : {Action : Type 0} (pass : ℕ) (ps : List (PassRecord Action)) (a c : O) → Same a → AreTold told pass ps a c
       → (log c ≡ with_paths (log a) plan pass (founds ps)) × Same c
   all_found pass [] a c same is = (ap log is, subst Same (sym is) same)
   all_found pass (p ∷ ps) a c same is =
@@ -57,7 +57,7 @@ module _ {O : Type 0} (told : O → (pass cost bound : ℕ) → O → Type 0) (l
       )
 
 -- passes that are told found the same
-pub founds_traced : {Note : Type 0} (line : Note → TraceLine) (ps : List (Pass Note))
+pub founds_traced : {Action : Type 0} (line : Action → TraceLine) (ps : List (PassRecord Action))
     → founds (map (traced_pass line) ps) ≡ founds ps
 founds_traced line [] = refl
 founds_traced line (p ∷ ps) = ap (λ (l : List Found). p.found ∷ l) (founds_traced line ps)
@@ -65,22 +65,22 @@ founds_traced line (p ∷ ps) = ap (λ (l : List Found). p.found ∷ l) (founds_
 -- ---- out of memory
 
 -- all passes of a plan are its first ones
-pub first_of_all : {Note : Type 0} (means : Meaning Note) (q : Inquiry) (ps : List (Pass Note)) (eps : ℕ)
+pub first_of_all : {Action : Type 0} (means : Meaning Action) (q : Inquiry) (ps : List (PassRecord Action)) (eps : ℕ)
     (old new : Marks) (spent : Bool) → ArePasses means q eps old ps new spent → AreFirstPasses means q eps old ps new
 first_of_all means q [] eps old new spent made = absurd made
 first_of_all means q (p ∷ ps) eps old new spent (inl made) = inl (made.0, (spent, made.1))
 first_of_all means q (p ∷ ps) eps old new spent (inr made) =
     inr (made.0, made.1, made.2, first_of_all means q ps (lowered q.ask.step eps) made.0 new spent made.3)
 
-part_so : {Note : Type 0} {means : Meaning Note} {q : Inquiry} {eps : ℕ} {old new : State Note} {before after : Counts}
-    (Told So : List (Pass Note) → Type 0) → ((ps : List (Pass Note)) → Told ps → So ps)
+part_so : {Action : Type 0} {means : Meaning Action} {q : Inquiry} {eps : ℕ} {old new : State Action} {before after : Counts}
+    (Told So : List (PassRecord Action) → Type 0) → ((ps : List (PassRecord Action)) → Told ps → So ps)
     → IsPartOfPlan means q eps old new before after Told → IsPartOfPlan means q eps old new before after So
 part_so Told So so part =
     record { passes = part.passes; told = so part.passes part.told; made = part.made; leaves = part.leaves }
 
 -- what follows from what an observer was told
-pub stands_so : {Note : Type 0} {means : Meaning Note} {q : Inquiry} {Ready : Type 0} {old new : Standing Note}
-    (Told So : List (Pass Note) → Type 0) → ((ps : List (Pass Note)) → Told ps → So ps)
+pub stands_so : {Action : Type 0} {means : Meaning Action} {q : Inquiry} {Ready : Type 0} {old new : Standing Action}
+    (Told So : List (PassRecord Action) → Type 0) → ((ps : List (PassRecord Action)) → Told ps → So ps)
     → StandsOutOfMemory means q Ready Told old new → StandsOutOfMemory means q Ready So old new
 unfolding part_so
 stands_so Told So so (inl cut) =
@@ -104,9 +104,9 @@ on_err_is P (Err e) h = h
 
 -- the passes that were made before memory ran out are those of
 -- a plan that was broken off, and their paths were published
-module _ {W : Type 0} (by : Known W) (w : W) (guide : ℕ → ℕ) (start goal k : ℕ) (how : SearchJob) (outputs : Outputs)
+module _ {W : Type 0} (by : PlannerOn W) (w : W) (guide : ℕ → ℕ) (start goal k : ℕ) (how : SearchJob) (outputs : Outputs)
     (log shown : List Entry) (before : Option Carried) where
-  pub broken_by : (old : Standing by.Note) (asked : Ask) (left : Marks) (ps : List (Pass by.Note))
+  pub broken_by : (old : Standing by.Action) (asked : Ask) (left : Marks) (ps : List (PassRecord by.Action))
       → by.on.says w (to_by by start goal) guide
       → Begins by.means by.on w (from_by by start goal) before old.search.labels old.search.raised
       → asked ≡ ask_of how outputs → old.search.goal ≡ to_by by start goal
@@ -122,7 +122,7 @@ module _ {W : Type 0} (by : Known W) (w : W) (guide : ℕ → ℕ) (start goal k
       raised = old.search.raised;
       begins = begins;
       left = left;
-      notes = ps;
+      actions = ps;
       passes =
           subst (λ (a : Ask). AreFirstPasses by.means (inquiry_of (by.on.network w) guide
           (to_by by start goal) a) a.first old.search.labels ps left) same
@@ -134,7 +134,7 @@ module _ {W : Type 0} (by : Known W) (w : W) (guide : ℕ → ℕ) (start goal k
   }
 
   -- and where memory ran out in the plan
-  pub stands_broken : (Ready : Type 0) (old new : Standing by.Note) (asked : Ask)
+  pub stands_broken : (Ready : Type 0) (old new : Standing by.Action) (asked : Ask)
       → by.on.says w (to_by by start goal) guide
       → Begins by.means by.on w (from_by by start goal) before old.search.labels old.search.raised
       → asked ≡ ask_of how outputs → old.search.goal ≡ to_by by start goal
@@ -146,13 +146,13 @@ module _ {W : Type 0} (by : Known W) (w : W) (guide : ℕ → ℕ) (start goal k
       broken_by old asked cut.mid.labels cut.part.passes is_guide begins same to cut.part.made cut.part.told
 
 -- before the first pass nothing was published
-pub none_published : {W : Type 0} {by : Known W} {w : W} {start goal k : ℕ} {how : SearchJob} {outputs : Outputs}
+pub none_published : {W : Type 0} {by : PlannerOn W} {w : W} {start goal k : ℕ} {how : SearchJob} {outputs : Outputs}
     {log shown : List Entry} {before : Option Carried} → shown ≡ log
     → IsPublishedInPart by w how outputs start goal k log shown before
 none_published same = record { found = []; broken = inl refl; shown_is = same }
 
 -- passes with what they did as lines have as many expansions
-pub expansions_traced : {Note : Type 0} (line : Note → TraceLine) (ps : List (Pass Note))
+pub expansions_traced : {Action : Type 0} (line : Action → TraceLine) (ps : List (PassRecord Action))
     → expansions (map (traced_pass line) ps) ≡ expansions ps
 expansions_traced line [] = refl
 expansions_traced line (p ∷ ps) = ap (λ (n : ℕ). p.expanded + n) (expansions_traced line ps)

@@ -15,7 +15,7 @@ use Rattle.sbpl_worlds.specs.sbpl_labels.Marks.{Marks}
 use Rattle.sbpl_worlds.specs.sbpl_map.CellMap.{CellMap}
 use Rattle.sbpl_worlds.specs.sbpl_map.MapAfter.{AreWritten, IsMapAfter}
 use Rattle.sbpl_worlds.specs.sbpl_map.declared.write.Write as change
-use Rattle.sbpl_worlds.specs.sbpl_promises.Asked.{Known, from_by, known_as, to_by}
+use Rattle.sbpl_worlds.specs.sbpl_promises.Asked.{PlannerOn, from_by, planner_as_is, to_by}
 use Rattle.sbpl_worlds.specs.sbpl_promises.Sites.{Site, from_of}
 use Rattle.sbpl_worlds.specs.sbpl_search.State.{State}
 use Rattle.sbpl_worlds.specs.sbpl_replan.Replanning.{BeginsWith, IsAimed, Standing, StaysTheSame}
@@ -40,7 +40,7 @@ from_stays false start next goal still = sym (still refl)
 -- What the plans of a run share: how they are known and written, the first world, the batches of changes to its map,
 -- what is asked, where each plan starts, and the goal.
 pub record Plans (W : Type 0) : Type 1 where
-  pub by : Known W
+  pub by : PlannerOn W
   pub written_of : PlanRecord → List Write
   pub world : W
   pub batches : List (List change.Write)
@@ -60,7 +60,7 @@ module _ {W : Type 0} (plans : Plans W) where
   -- the plans before plan k were made and told, and the map is that after the first k batches; these entries were
   -- published before the first
   -- of them, and these after the last
-  pub record IsGoing (now : W) (k start : ℕ) (first log : List Entry) (r : Standing by.Note)
+  pub record IsGoing (now : W) (k start : ℕ) (first log : List Entry) (r : Standing by.Action)
       (a b : DeskState) : Type 0 where
     pub same : now ≡ by.on.cells.over w (by.on.cells.map now)
     pub inside : k ≤ length batches
@@ -161,7 +161,7 @@ module _ {W : Type 0} {plans : Plans W} where
         ∙ append-nil (written_of r))) (status_ends (Err e) ends is);
   }
 
-  pub sets_out : {start : ℕ} {log : List Entry} {r : Standing by.Note} {a : DeskState}
+  pub sets_out : {start : ℕ} {log : List Entry} {r : Standing by.Action} {a : DeskState}
       → IsTerrain by.on.network by.on.cells → IsMapAfter (by.on.cells.map w) batches 0 (by.on.cells.map w)
       → by.on.cells.is_made w → start ≡ starts 0 → IsSetFor how (from_by by start goal) (to_by by start goal) r
       → GoesOnFrom by.means by.on w (from_by by start goal) None r
@@ -178,13 +178,13 @@ module _ {W : Type 0} {plans : Plans W} where
     ends = λ c status shown e. e;
   }
 
-  pub at_last : {now : W} {k start : ℕ} {first log : List Entry} {r : Standing by.Note} {a b : DeskState} (n : ℕ)
+  pub at_last : {now : W} {k start : ℕ} {first log : List Entry} {r : Standing by.Action} {a b : DeskState} (n : ℕ)
       → k ≡ n → IsGoing plans now k start first log r a b → IsGoing plans now n start first log r a b
   at_last {now} {start} {first} {log} {r} {a} {b} n same going =
       subst (λ (i : ℕ). IsGoing plans now i start first log r a b) same going
 
-  module _ {now : W} {k start : ℕ} {first log : List Entry} {r : Standing by.Note} {a b : DeskState}
-      (shown : List Entry) (s : Standing by.Note) (c : DeskState)
+  module _ {now : W} {k start : ℕ} {first log : List Entry} {r : Standing by.Action} {a b : DeskState}
+      (shown : List Entry) (s : Standing by.Action) (c : DeskState)
       (going : IsGoing plans now k start first log r a b) where
     on_that : (before : Option Carried) (p : PlanRecord)
         → IsPlanOf by now how outputs start goal k log before (carried_of (by.on.cells.map now) s) p
@@ -257,7 +257,7 @@ module _ {W : Type 0} {plans : Plans W} where
 
     -- it was told, then the map was changed, and then the start moved
     pub changes : IsTerrain by.on.network by.on.cells
-        → (next : W) (next_start : ℕ) (t u : Standing by.Note) (batch : List change.Write)
+        → (next : W) (next_start : ℕ) (t u : Standing by.Action) (batch : List change.Write)
         → ((first m m' : CellMap) (bs : List (List change.Write)) (n : ℕ) (l : List change.Write)
         → IsMapAfter first bs n m → slice_get bs n ≡ Some l → AreWritten m l m' → IsMapAfter first bs (n + 1) m')
         → NextEnds (Ok tt) → NoneFalls b.write_faults c.write_faults → IsSetFor how (from_by by start goal) (to_by by start goal) s
@@ -265,7 +265,7 @@ module _ {W : Type 0} {plans : Plans W} where
         → next ≡ by.on.cells.over now (by.on.cells.map next) → by.on.cells.is_made next
         → BeginsWith by.means by.on.network by.on.cells now next s.search.labels t.search.labels
         t.search.raised → StaysTheSame s t → t.counts ≡ s.counts
-        → next_start ≡ starts (k + 1) → (by.on.wording.back ≡ false → next_start ≡ start)
+        → next_start ≡ starts (k + 1) → (by.on.reporting.back ≡ false → next_start ≡ start)
         → IsAimed (to_by by next_start goal) t u → IsGoing plans next (k + 1) next_start first shown u a c
     changes terrain next next_start t u batch law made low set at written others kept begins stays counts start_is
         still aimed = record {
@@ -281,9 +281,9 @@ module _ {W : Type 0} {plans : Plans W} where
           set = record {
             between = record {
               from_is =
-                  ap (λ (x : State by.Note). x.labels.start) aimed.search ∙ stays.start ∙ set.between.from_is
-                  ∙ from_stays by.on.wording.back start next_start goal still;
-              to_is = ap (λ (x : State by.Note). x.goal) aimed.search;
+                  ap (λ (x : State by.Action). x.labels.start) aimed.search ∙ stays.start ∙ set.between.from_is
+                  ∙ from_stays by.on.reporting.back start next_start goal still;
+              to_is = ap (λ (x : State by.Action). x.goal) aimed.search;
             };
             budget_is = ap (λ (n : Counts). n.per_plan) aimed.counts ∙ stays.per_plan ∙ set.budget_is;
           };
@@ -294,10 +294,10 @@ module _ {W : Type 0} {plans : Plans W} where
                 u.search.labels u.search.raised) (sym back)
                 (subst
                 (λ (l : List ℕ). BeginsWith by.means by.on.network by.on.cells now next s.search.labels
-                u.search.labels l) (ap (λ (x : State by.Note). x.raised) (sym aimed.search))
+                u.search.labels l) (ap (λ (x : State by.Action). x.raised) (sym aimed.search))
                 (subst
                 (λ (m : Marks). BeginsWith by.means by.on.network by.on.cells now next s.search.labels m
-                t.search.raised) (ap (λ (x : State by.Note). x.labels) (sym aimed.search)) begins));
+                t.search.raised) (ap (λ (x : State by.Action). x.labels) (sym aimed.search)) begins));
             counted = ap (λ (n : Counts). n.run) (sym counts ∙ sym aimed.counts);
           };
           ends = λ d status later e. tells made low e;
@@ -313,8 +313,8 @@ pub ends_by : {W : Type 0} {on : Site W} {written_of : PlanRecord → List Write
     {batches : List (List change.Write)} {how : SearchJob} {outputs : Outputs} {starts : ℕ → ℕ} {goal : ℕ}
     {log shown : List Entry} {a b : DeskState} {status : ℕ}
     (p : Planner) → how.planner ≡ p
-    → EndsPlans (known_as on p) written_of w batches how outputs starts goal 0 log shown None a b status
-    → EndsPlans (known_as on how.planner) written_of w batches how outputs starts goal 0 log shown None a b status
+    → EndsPlans (planner_as_is on p) written_of w batches how outputs starts goal 0 log shown None a b status
+    → EndsPlans (planner_as_is on how.planner) written_of w batches how outputs starts goal 0 log shown None a b status
 ends_by {W} {on} {written_of} {w} {batches} {how} {outputs} {starts} {goal} {log} {shown} {a} {b} {status} p is ends =
     subst (λ (x : Planner).
-    EndsPlans (known_as on x) written_of w batches how outputs starts goal 0 log shown None a b status) (sym is) ends
+    EndsPlans (planner_as_is on x) written_of w batches how outputs starts goal 0 log shown None a b status) (sym is) ends

@@ -5,7 +5,7 @@ use Rattle.std.specs.Prelude.{OnErr}
 use Rattle.sbpl_worlds.specs.sbpl_incumbent.Entries.{next_entry}
 use Rattle.sbpl_worlds.specs.sbpl_plan.Observed.{AreTold}
 use Rattle.sbpl_worlds.specs.sbpl_plan.Passing.{Inquiry}
-use Rattle.sbpl_worlds.specs.sbpl_plan.declared.passes.Pass.{Pass}
+use Rattle.sbpl_worlds.specs.sbpl_plan.declared.passes.PassRecord.{PassRecord}
 use Rattle.sbpl_worlds.specs.sbpl_plan.declared.result.Planned.{Planned}
 use Rattle.sbpl_worlds.specs.sbpl_promises.Published.{founds, with_paths}
 use Rattle.sbpl_worlds.specs.sbpl_replan.Replanning.{Standing, StandsOutOfMemory}
@@ -28,7 +28,7 @@ module _ {R : Type 0} (old begun new : LiveBoard R) (plan : ℕ) (stays : IsSame
       IsSamePublisher a b × (b.plan ≡ a.plan)
       × (entries_of b ≡ entries_of a ++ next_entry (entries_of a) a.plan pass cost bound ∷ [])
 
-  abbrev AreAll : {Note : Type 0} → List (Pass Note) → Type 0
+  abbrev AreAll : {Action : Type 0} → List (PassRecord Action) → Type 0
   AreAll ps = AreTold Told 0 ps begun new
 
   step : (a b : LiveBoard R) (pass cost bound : ℕ) → Same a → Told a pass cost bound b
@@ -38,27 +38,27 @@ module _ {R : Type 0} (old begun new : LiveBoard R) (plan : ℕ) (stays : IsSame
     (then_same begun a b same.0 told.0, told.1 ∙ same.1),
   )
 
-  found : {Note : Type 0} (ps : List (Pass Note)) → AreAll ps
+  found : {Action : Type 0} (ps : List (PassRecord Action)) → AreAll ps
       → (entries_of new ≡ with_paths (entries_of begun) begun.plan 0 (founds ps)) × Same new
   found ps told =
       all_found Told (λ (o : LiveBoard R). entries_of o) begun.plan Same step 0 ps begun new
       ((refl, refl), refl) told
 
   -- their paths were published
-  pub shown : {Note : Type 0} (ps : List (Pass Note)) → AreAll ps
+  pub shown : {Action : Type 0} (ps : List (PassRecord Action)) → AreAll ps
       → entries_of new ≡ with_paths (entries_of old) plan 0 (founds ps)
   shown ps told = (found ps told).0 ∙ (λ i. with_paths (entries i) (number i) 0 (founds ps))
 
-  same : {Note : Type 0} (ps : List (Pass Note)) → AreAll ps → IsSamePublisher old new
+  same : {Action : Type 0} (ps : List (PassRecord Action)) → AreAll ps → IsSamePublisher old new
   same ps told = then_same old begun new stays (found ps told).1.0
 
-  pub stands_same : {Note : Type 0} {means : Meaning Note} {q : Inquiry} {Ready : Type 0} {was now : Standing Note}
+  pub stands_same : {Action : Type 0} {means : Meaning Action} {q : Inquiry} {Ready : Type 0} {was now : Standing Action}
       → StandsOutOfMemory means q Ready AreAll was now → IsSamePublisher old new
   stands_same (inl cut) = same cut.part.passes cut.part.told
   stands_same (inr cut) = same cut.part.passes cut.part.told
 
   -- whether all passes were made, or memory ran out, it is the same publisher
-  pub same_if : {Note E : Type 0} (Broken : Type 0) → (Broken → IsSamePublisher old new) → (r : Result (Planned Note) E)
+  pub same_if : {Action E : Type 0} (Broken : Type 0) → (Broken → IsSamePublisher old new) → (r : Result (Planned Action) E)
       → IfOk r (λ x. AreAll x.passes) → OnErr r Broken → IsSamePublisher old new
   same_if Broken so (Ok x) told broken = same x.passes told
   same_if Broken so (Err e) told broken = so broken

@@ -31,8 +31,8 @@ Completes on w from arcs at left steps =
     (others : List PathStep) → AreSteps on w at left others → AreSteps on w from arcs (steps ++ others)
 
 pub one_more : {W : Type 0} {u : ℕ} (on : Site W) (w : W) (from at k : ℕ) (arcs ks : List ℕ) (steps : List PathStep)
-    (step : PathStep) → Completes on w from arcs at (k ∷ ks) steps → (on.wording.told w).head at k ≡ Some u
-    → on.wording.step w at k u step → Completes on w from arcs u ks (steps ++ step ∷ [])
+    (step : PathStep) → Completes on w from arcs at (k ∷ ks) steps → (on.reporting.told w).head at k ≡ Some u
+    → on.reporting.step w at k u step → Completes on w from arcs u ks (steps ++ step ∷ [])
 one_more {u} on w from at k arcs ks steps step done head is others more =
     rw append_assoc (done (step ∷ others) (u, head, is, more))
 

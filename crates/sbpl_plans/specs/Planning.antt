@@ -12,7 +12,7 @@ use Rattle.sbpl_worlds.specs.sbpl_labels.Marks.{AreInitial}
 use Rattle.sbpl_worlds.specs.sbpl_search.Meaning.{Meaning}
 use Rattle.sbpl_worlds.specs.sbpl_search.Ready.{IsStartFresh}
 use Rattle.sbpl_worlds.specs.sbpl_search.State.{State}
-use Rattle.sbpl_worlds.specs.sbpl_promises.Asked.{Known}
+use Rattle.sbpl_worlds.specs.sbpl_promises.Asked.{PlannerOn}
 use Rattle.sbpl_worlds.specs.sbpl_promises.Sites.{Site}
 use Rattle.sbpl_worlds.specs.sbpl_plan.declared.found.Found.{Found}
 use Rattle.sbpl_worlds.specs.sbpl_promises.Headline.{Begins, Carried, IsBrokenOff, IsPlanOf, expanded_before}
@@ -20,7 +20,7 @@ use Rattle.sbpl_worlds.specs.sbpl_promises.Published.{Entry, with_paths, with_pl
 use Rattle.sbpl_worlds.specs.sbpl_promises.Writing.{AreAppended, DeskState, EndsIn, Stays, Write}
 
 -- a search that has made no pass yet, on a graph, from the one state to the other
-pub record IsNewSearch {Note : Type 0} (means : Meaning Note) (n : Network) (from to : ℕ) (s : State Note) : Type 0 where
+pub record IsNewSearch {Action : Type 0} (means : Meaning Action) (n : Network) (from to : ℕ) (s : State Action) : Type 0 where
   pub initial : AreInitial s.labels n.states from
   pub none_raised : s.raised ≡ []
   pub ready : means.ready n s.labels 0
@@ -28,32 +28,32 @@ pub record IsNewSearch {Note : Type 0} (means : Meaning Note) (n : Network) (fro
   pub fresh : IsStartFresh s.labels
 
 -- the plans are searched from the one state to the other, with the budget that is asked
-pub record IsSetFor {Note : Type 0} (how : SearchJob) (from to : ℕ) (s : Standing Note) : Type 0 where
+pub record IsSetFor {Action : Type 0} (how : SearchJob) (from to : ℕ) (s : Standing Action) : Type 0 where
   pub between : GoesBetween from to s
   pub budget_is : s.counts.per_plan ≡ how.budget
 
 -- what the last plan on a map leaves to the next
-abbrev pub carried_of : {Note : Type 0} → CellMap → Standing Note → Carried
+abbrev pub carried_of : {Action : Type 0} → CellMap → Standing Action → Carried
 carried_of m s = record { map = m; labels = s.search.labels; expanded = s.counts.run }
 
 -- the next plan in a world, whose search goes from this state, goes on from the plans before it
-pub record GoesOnFrom {Note W : Type 0} (means : Meaning Note) (on : Site W) (w : W) (from : ℕ) (before : Option Carried) (s : Standing Note) : Type 0 where
+pub record GoesOnFrom {Action W : Type 0} (means : Meaning Action) (on : Site W) (w : W) (from : ℕ) (before : Option Carried) (s : Standing Action) : Type 0 where
   pub begins : Begins means on w from before s.search.labels s.search.raised
   pub counted : expanded_before before ≡ s.counts.run
 
 -- the record of plan k in a world, and what was published before it and after
-pub record IsPublishedPlan {W : Type 0} (by : Known W) (w : W) (how : SearchJob) (outputs : Outputs) (start goal k : ℕ) (log shown : List Entry) (before : Option Carried) (carried : Carried) (r : PlanRecord) : Type 0 where
+pub record IsPublishedPlan {W : Type 0} (by : PlannerOn W) (w : W) (how : SearchJob) (outputs : Outputs) (start goal k : ℕ) (log shown : List Entry) (before : Option Carried) (carried : Carried) (r : PlanRecord) : Type 0 where
   pub plan : IsPlanOf by w how outputs start goal k log before carried r
   pub shown_is : shown ≡ with_plan log r
 
 -- memory ran out in plan k in a world, and the paths that its passes so far found were published
-pub record IsPublishedInPart {W : Type 0} (by : Known W) (w : W) (how : SearchJob) (outputs : Outputs) (start goal k : ℕ) (log shown : List Entry) (before : Option Carried) : Type 0 where
+pub record IsPublishedInPart {W : Type 0} (by : PlannerOn W) (w : W) (how : SearchJob) (outputs : Outputs) (start goal k : ℕ) (log shown : List Entry) (before : Option Carried) : Type 0 where
   pub found : List Found
   pub broken : (found ≡ []) ⊎ IsBrokenOff by w how outputs start goal before found
   pub shown_is : shown ≡ with_paths log k 0 found
 
 -- what is written of plan k in a world, and whether it was; what was published before it and after
-abbrev pub EndsOnePlan : {W : Type 0} → Known W → (PlanRecord → List Write) → W → SearchJob → Outputs → (start goal k : ℕ) → (log shown : List Entry) → Option Carried → Carried → (old new : DeskState) → Result (Unit {0}) WriteStop → Type 0
+abbrev pub EndsOnePlan : {W : Type 0} → PlannerOn W → (PlanRecord → List Write) → W → SearchJob → Outputs → (start goal k : ℕ) → (log shown : List Entry) → Option Carried → Carried → (old new : DeskState) → Result (Unit {0}) WriteStop → Type 0
 EndsOnePlan by written_of w how outputs start goal k log shown before carried old new (Ok _) =
     (r : PlanRecord) × IsPublishedPlan by w how outputs start goal k log shown before carried r × AreAppended old new (written_of r)
 EndsOnePlan by written_of w how outputs start goal k log shown before carried old new (Err e) =

@@ -2,8 +2,8 @@
 use Rattle.std.specs.Prelude.{ℕ, ◌<◌, List, None}
 use Rattle.sbpl_worlds.specs.sbpl_job.Jobs.{IsSearchJob}
 use Rattle.sbpl_plans.specs.declared.task.Task.{Task}
-use Rattle.sbpl_worlds.specs.sbpl_promises.Asked.{Known}
-use Rattle.sbpl_worlds.specs.sbpl_promises.Causes.{IsCourseIn}
+use Rattle.sbpl_worlds.specs.sbpl_promises.Asked.{PlannerOn}
+use Rattle.sbpl_worlds.specs.sbpl_promises.Causes.{AreUpdatesIn}
 use Rattle.sbpl_worlds.specs.sbpl_promises.Promises.{EndsPlans}
 use Rattle.sbpl_worlds.specs.sbpl_promises.Published.{Entry}
 use Rattle.sbpl_worlds.specs.sbpl_promises.Sites.{Site, start_after}
@@ -13,13 +13,13 @@ use Rattle.sbpl_worlds.specs.sbpl_report.declared.record.PlanRecord.{PlanRecord}
 -- these plans can be made in a world: they go between its states, by a search in range, and the map and the robot, which moves or not,
 -- take their course in it
 pub record CanBeMade {W : Type 0} (on : Site W) (w : W) (t : Task) : Type 0 where
-  pub start : t.start < (on.wording.told w).states
-  pub goal : t.goal < (on.wording.told w).states
+  pub start : t.start < (on.reporting.told w).states
+  pub goal : t.goal < (on.reporting.told w).states
   pub search : IsSearchJob t.how.now
-  pub course : IsCourseIn on on.wording.back w t.course.now
+  pub updates : AreUpdatesIn on on.reporting.back w t.updates.now
   pub kept : on.cells.is_made w
 
 -- how these plans end, which begin in a world: what was published before and after, what the desk held, and the status
-abbrev pub EndsTask : {W : Type 0} → Known W → (PlanRecord → List Write) → W → Task → (log shown : List Entry) → (before after : DeskState) → (status : ℕ) → Type 0
+abbrev pub EndsTask : {W : Type 0} → PlannerOn W → (PlanRecord → List Write) → W → Task → (log shown : List Entry) → (before after : DeskState) → (status : ℕ) → Type 0
 EndsTask by written_of w t log shown before after status =
-    EndsPlans by written_of w t.course.now.batches t.how.now t.outputs.now (start_after by.on.wording w t.start t.course.now.moves) t.goal 0 log shown None before after status
+    EndsPlans by written_of w t.updates.now.batches t.how.now t.outputs.now (start_after by.on.reporting w t.start t.updates.now.moves) t.goal 0 log shown None before after status

@@ -1,6 +1,7 @@
 //! One plan on a world.
 
-ghost use Rattle.std.specs.Prelude.{map, [], if◌then◌else◌, ◌≡◌, ◌+◌, ◌^◌, ◌<◌, ◌≤◌, ℕ, length, IfOk, MatchBool, None};
+ghost use Rattle.std.specs.Prelude.{map, [], if◌then◌else◌, ◌≡◌, ◌+◌, ◌^◌, ◌<◌, ◌≤◌, ℕ, length};
+ghost use Rattle.std.specs.Prelude.{IfOk, MatchBool, None};
 ghost use Rattle.std.specs.Prelude.{OnErr, Option, Some};
 ghost use Rattle.sbpl_worlds.specs.sbpl_promises.Headline.{AreSteps, Carried, IsKnownWithin, IsNoneThere, IsPathFrom};
 ghost use Rattle.sbpl_worlds.specs.sbpl_promises.Headline.{IsSearched, IsWithinBound, KeepsPromises, Joins, JoinsStates};
@@ -13,7 +14,7 @@ ghost use Rattle.sbpl_worlds.specs.sbpl_promises.Published.{newest, with_plan};
 ghost use Rattle.sbpl_worlds.specs.sbpl_plan.Asked.{IsAsk, MOST_PASSES};
 ghost use Rattle.sbpl_worlds.specs.sbpl_replan.Replanning.{IsReady, standing_of};
 ghost use Rattle.sbpl_worlds.specs.sbpl_job.Jobs.{IsSearchJob};
-ghost use Rattle.sbpl_worlds.specs.sbpl_promises.Asked.{ask_of, known_by};
+ghost use Rattle.sbpl_worlds.specs.sbpl_promises.Asked.{ask_of, planner_on};
 ghost use Rattle.sbpl_worlds.specs.sbpl_plan.Outcomes.{IsResultOf, IsTrueOutcome};
 ghost use Rattle.sbpl_worlds.specs.sbpl_graph.Certificate.{AreSupported};
 ghost use Rattle.sbpl_worlds.specs.sbpl_labels.Marks.{g_of, v_of};
@@ -38,8 +39,8 @@ fn steps_of<W: Workspace>(
     from: u32,
     arcs: &[u32],
 ) -> Result<Steps, NoMemory>
-    requires path { IsPathFrom (W.wording.told world.now) from arcs.now }
-    ensures steps { IfOk result (AreSteps (site_of W.network W.cells W.Best.says W.wording) world.now from arcs.now) }
+    requires path { IsPathFrom (W.reporting.told world.now) from arcs.now }
+    ensures steps { IfOk result (AreSteps (site_of W.network W.cells W.Best.says W.reporting) world.now from arcs.now) }
 {
     let mut steps = Vec::with_capacity(alloc, arcs.len())?;
     let mut at = from;
@@ -59,9 +60,9 @@ fn path_of<W: Workspace>(
     goal: u32,
     found: FoundPath,
 ) -> Result<PathRecord, NoMemory>
-    requires state { start < (W.wording.told world.now).states }
-    requires so { IsTrueOutcome (W.wording.told world.now) start goal (Results.Path found) }
-    ensures joins { IfOk result (JoinsStates (site_of W.network W.cells W.Best.says W.wording) world.now start goal) }
+    requires state { start < (W.reporting.told world.now).states }
+    requires so { IsTrueOutcome (W.reporting.told world.now) start goal (Results.Path found) }
+    ensures joins { IfOk result (JoinsStates (site_of W.network W.cells W.Best.says W.reporting) world.now start goal) }
     ensures arcs { IfOk result (λ p. p.arcs ≡ found.arcs) }
     ensures cost { IfOk result (λ p. p.cost ≡ found.cost) }
     ensures bound { IfOk result (λ p. p.bound ≡ found.bound) }
@@ -71,7 +72,7 @@ fn path_of<W: Workspace>(
     Ok(PathRecord {
         cost,
         bound,
-        start: world.spot(start),
+        start: world.report_pose(start),
         steps,
         arcs,
     })
@@ -85,12 +86,12 @@ fn outcome_of<W: Workspace>(
     goal: u32,
     found: Outcome<FoundPath>,
 ) -> Result<Outcome<PathRecord>, NoMemory>
-    requires state { start < (W.wording.told world.now).states }
-    requires so { IsTrueOutcome (W.wording.told world.now) start goal found }
+    requires state { start < (W.reporting.told world.now).states }
+    requires so { IsTrueOutcome (W.reporting.told world.now) start goal found }
     ensures told { IfOk result (IsSameResult found) }
-    ensures joins { IfOk result (Joins (site_of W.network W.cells W.Best.says W.wording) world.now start goal) }
-    ensures within_the_bound { IfOk result (IsWithinBound (W.wording.told world.now) start goal) }
-    ensures none { IfOk result (IsNoneThere (W.wording.told world.now) start goal) }
+    ensures joins { IfOk result (Joins (site_of W.network W.cells W.Best.says W.reporting) world.now start goal) }
+    ensures within_the_bound { IfOk result (IsWithinBound (W.reporting.told world.now) start goal) }
+    ensures none { IfOk result (IsNoneThere (W.reporting.told world.now) start goal) }
     ensures answered { IfOk result (λ o. (asked : ℕ) → Conclusions.IsConclusive asked found → IsKnownWithin asked o) }
 {
     match found {
@@ -174,22 +175,22 @@ fn record_of<W: Workspace, N: Traced + Copy>(
     raised: Raised,
     incumbent: Option<Entry>,
 ) -> Result<PlanRecord, NoMemory>
-    requires start { start < (W.wording.told world.now).states }
-    requires goal { goal < (W.wording.told world.now).states }
-    requires so { IsTrueOutcome (W.network world.now) (from_of W.wording.back start goal) (to_of W.wording.back start goal)
+    requires start { start < (W.reporting.told world.now).states }
+    requires goal { goal < (W.reporting.told world.now).states }
+    requires so { IsTrueOutcome (W.network world.now) (from_of W.reporting.back start goal) (to_of W.reporting.back start goal)
         planned.outcome }
     ensures number { IfOk result (λ r. r.plan ≡ plan) }
     ensures passes { IfOk result (λ r. r.passes ≡ map (traced_pass N.line) planned.passes) }
     ensures expanded { IfOk result (λ r. r.expanded ≡ expanded) }
-    ensures told { IfOk result (λ r. IsToldOf (Leads W.wording.back (W.wording.told world.now) start goal) planned.outcome
+    ensures told { IfOk result (λ r. IsToldOf (Leads W.reporting.back (W.reporting.told world.now) start goal) planned.outcome
         r.outcome) }
     ensures labels { IfOk result (λ r. r.labels ≡ labels) }
     ensures raised { IfOk result (λ r. r.raised ≡ raised) }
     ensures incumbent { IfOk result (λ r. r.incumbent ≡ incumbent) }
     ensures marked { IfOk result (λ r. MatchBool planned.spent (r.spent ≡ Some expanded) (r.spent ≡ None)) }
-    ensures joins { IfOk result (λ r. Joins (site_of W.network W.cells W.Best.says W.wording) world.now start goal r.outcome) }
-    ensures within_the_bound { IfOk result (λ r. IsWithinBound (W.wording.told world.now) start goal r.outcome) }
-    ensures none { IfOk result (λ r. IsNoneThere (W.wording.told world.now) start goal r.outcome) }
+    ensures joins { IfOk result (λ r. Joins (site_of W.network W.cells W.Best.says W.reporting) world.now start goal r.outcome) }
+    ensures within_the_bound { IfOk result (λ r. IsWithinBound (W.reporting.told world.now) start goal r.outcome) }
+    ensures none { IfOk result (λ r. IsNoneThere (W.reporting.told world.now) start goal r.outcome) }
     ensures answered { IfOk result (λ r. (asked : ℕ) → Conclusions.IsConclusive asked planned.outcome
         → IsKnownWithin asked r.outcome) }
 {
@@ -217,31 +218,31 @@ pub(crate) fn make_record<W: Workspace + Drop, S: Search<W, W::Best> + Drop, B: 
     live: &mut LiveBoard<B>,
 ) -> Result<PlanRecord, NoMemory>
 where
-    S::Note: Traced,
-    requires start { turn.start < (W.wording.told session.old.world).states }
-    requires goal { task.now.goal < (W.wording.told session.old.world).states }
+    S::Action: Traced,
+    requires start { turn.start < (W.reporting.told session.old.world).states }
+    requires goal { task.now.goal < (W.reporting.told session.old.world).states }
     requires few { length (entries_of live.old) + MOST_PASSES < 2 ^ 63 }
     requires search { IsSearchJob task.now.how.now }
     requires ready { IsReady S.meaning W.network W.Best.is_made_for session.old }
-    requires set { IsSetFor task.now.how.now (from_of W.wording.back turn.start task.now.goal)
-        (to_of W.wording.back turn.start task.now.goal) (standing_of session.old) }
+    requires set { IsSetFor task.now.how.now (from_of W.reporting.back turn.start task.now.goal)
+        (to_of W.reporting.back turn.start task.now.goal) (standing_of session.old) }
     ensures number { IfOk result (λ r. r.plan ≡ turn.plan) }
-    ensures promises { IfOk result (KeepsPromises (site_of W.network W.cells W.Best.says W.wording) session.old.world
+    ensures promises { IfOk result (KeepsPromises (site_of W.network W.cells W.Best.says W.reporting) session.old.world
         turn.start task.now.goal task.now.how.now.bound) }
-    ensures searched { (before : Option Carried) → GoesOnFrom S.meaning (site_of W.network W.cells W.Best.says W.wording)
-        session.old.world (from_of W.wording.back turn.start task.now.goal) before (standing_of session.old)
-        → IfOk result (IsSearched (known_by (site_of W.network W.cells W.Best.says W.wording) S.meaning S.Note.line)
+    ensures searched { (before : Option Carried) → GoesOnFrom S.meaning (site_of W.network W.cells W.Best.says W.reporting)
+        session.old.world (from_of W.reporting.back turn.start task.now.goal) before (standing_of session.old)
+        → IfOk result (IsSearched (planner_on (site_of W.network W.cells W.Best.says W.reporting) S.meaning S.Action.line)
         session.old.world task.now.how.now task.now.outputs.now turn.start task.now.goal before
         (carried_of (W.cells.map session.old.world) (standing_of session.new))) }
     ensures ready { IfOk result (λ _. IsReady S.meaning W.network W.Best.is_made_for session.new) }
-    ensures set { IfOk result (λ _. IsSetFor task.now.how.now (from_of W.wording.back turn.start task.now.goal)
-        (to_of W.wording.back turn.start task.now.goal) (standing_of session.new)) }
+    ensures set { IfOk result (λ _. IsSetFor task.now.how.now (from_of W.reporting.back turn.start task.now.goal)
+        (to_of W.reporting.back turn.start task.now.goal) (standing_of session.new)) }
     ensures world { session.new.world ≡ session.old.world }
     ensures shown { IfOk result (λ r. entries_of live.new ≡ with_plan (entries_of live.old) r) }
     ensures incumbent { IfOk result (λ r. r.incumbent ≡ newest (entries_of live.new)) }
-    ensures broken { (before : Option Carried) → GoesOnFrom S.meaning (site_of W.network W.cells W.Best.says W.wording)
-        session.old.world (from_of W.wording.back turn.start task.now.goal) before (standing_of session.old)
-        → OnErr result (IsPublishedInPart (known_by (site_of W.network W.cells W.Best.says W.wording) S.meaning S.Note.line)
+    ensures broken { (before : Option Carried) → GoesOnFrom S.meaning (site_of W.network W.cells W.Best.says W.reporting)
+        session.old.world (from_of W.reporting.back turn.start task.now.goal) before (standing_of session.old)
+        → OnErr result (IsPublishedInPart (planner_on (site_of W.network W.cells W.Best.says W.reporting) S.meaning S.Action.line)
         session.old.world task.now.how.now task.now.outputs.now turn.start task.now.goal turn.plan
         (entries_of live.old) (entries_of live.new) before) }
     ensures same { IsSamePublisher live.old live.new }

@@ -3,7 +3,7 @@
 ghost use Rattle.std.specs.Prelude.{◌^◌, ◌<◌, ◌≤◌, length};
 ghost use Rattle.sbpl_worlds.specs.sbpl_epase.Making.{CanPass, Leaves};
 ghost use Rattle.sbpl_worlds.specs.sbpl_search.Query.{query};
-ghost use Rattle.sbpl_worlds.specs.sbpl_promises.Asked.{known_as};
+ghost use Rattle.sbpl_worlds.specs.sbpl_promises.Asked.{planner_as_is};
 ghost use Rattle.sbpl_plans.specs.Boards.{IsSamePublisher, entries_of};
 ghost use Rattle.sbpl_plans.specs.Tasks.{CanBeMade, EndsTask};
 ghost use Rattle.sbpl_worlds.specs.sbpl_promises.Sites.{site_of};
@@ -43,9 +43,9 @@ pub fn make_plans<
 ) -> u8
 where
     W::Best: Sync,
-    requires task { CanBeMade (site_of W.network W.cells W.Best.says W.wording) world task.now }
+    requires task { CanBeMade (site_of W.network W.cells W.Best.says W.reporting) world task.now }
     requires few { length (entries_of live.old) < 2 ^ 62 }
-    ensures ends { EndsTask (known_as (site_of W.network W.cells W.Best.says W.wording) task.now.how.now.planner)
+    ensures ends { EndsTask (planner_as_is (site_of W.network W.cells W.Best.says W.reporting) task.now.how.now.planner)
         (T.written telling.now) world task.now (entries_of live.old) (entries_of live.new)
         (D.state desk.old) (D.state desk.new) result }
     ensures same { IsSamePublisher live.old live.new }

@@ -3,7 +3,7 @@
 ghost use Rattle.std.specs.Prelude.{◌≡◌, ◌+◌, ◌^◌, ◌<◌, ◌≤◌, length, IfOk, None, Option};
 ghost use Rattle.sbpl_worlds.specs.sbpl_job.Jobs.{IsSearchJob};
 ghost use Rattle.sbpl_worlds.specs.sbpl_promises.Headline.{Carried};
-ghost use Rattle.sbpl_worlds.specs.sbpl_promises.Asked.{known_by};
+ghost use Rattle.sbpl_worlds.specs.sbpl_promises.Asked.{planner_on};
 ghost use Rattle.sbpl_worlds.specs.sbpl_promises.Sites.{from_of, site_of, to_of};
 ghost use Rattle.sbpl_worlds.specs.sbpl_replan.Replanning.{IsReady, standing_of};
 ghost use Rattle.sbpl_plans.specs.Planning.{EndsOnePlan, GoesOnFrom, IsNewSearch, IsSetFor, carried_of};
@@ -34,24 +34,24 @@ fn make_plan<D: Desk, T: Telling, W: Workspace + Drop, S: Search<W, W::Best> + D
     desk: &mut D,
 ) -> Result<(), WriteStop>
 where
-    S::Note: Traced,
-    requires start { turn.start < (W.wording.told session.old.world).states }
-    requires goal { task.now.goal < (W.wording.told session.old.world).states }
+    S::Action: Traced,
+    requires start { turn.start < (W.reporting.told session.old.world).states }
+    requires goal { task.now.goal < (W.reporting.told session.old.world).states }
     requires few { length (entries_of live.old) + MOST_PASSES < 2 ^ 63 }
     requires search { IsSearchJob task.now.how.now }
     requires kept { W.cells.is_made session.old.world }
     requires ready { IsReady S.meaning W.network W.Best.is_made_for session.old }
-    requires set { IsSetFor task.now.how.now (from_of W.wording.back turn.start task.now.goal)
-        (to_of W.wording.back turn.start task.now.goal) (standing_of session.old) }
-    ensures ends { (before : Option Carried) → GoesOnFrom S.meaning (site_of W.network W.cells W.Best.says W.wording)
-        session.old.world (from_of W.wording.back turn.start task.now.goal) before (standing_of session.old)
-        → EndsOnePlan (known_by (site_of W.network W.cells W.Best.says W.wording) S.meaning S.Note.line)
+    requires set { IsSetFor task.now.how.now (from_of W.reporting.back turn.start task.now.goal)
+        (to_of W.reporting.back turn.start task.now.goal) (standing_of session.old) }
+    ensures ends { (before : Option Carried) → GoesOnFrom S.meaning (site_of W.network W.cells W.Best.says W.reporting)
+        session.old.world (from_of W.reporting.back turn.start task.now.goal) before (standing_of session.old)
+        → EndsOnePlan (planner_on (site_of W.network W.cells W.Best.says W.reporting) S.meaning S.Action.line)
         (T.written telling.now) session.old.world task.now.how.now task.now.outputs.now turn.start task.now.goal turn.plan
         (entries_of live.old) (entries_of live.new) before
         (carried_of (W.cells.map session.old.world) (standing_of session.new)) (D.state desk.old) (D.state desk.new) result }
     ensures ready { IfOk result (λ _. IsReady S.meaning W.network W.Best.is_made_for session.new) }
-    ensures set { IfOk result (λ _. IsSetFor task.now.how.now (from_of W.wording.back turn.start task.now.goal)
-        (to_of W.wording.back turn.start task.now.goal) (standing_of session.new)) }
+    ensures set { IfOk result (λ _. IsSetFor task.now.how.now (from_of W.reporting.back turn.start task.now.goal)
+        (to_of W.reporting.back turn.start task.now.goal) (standing_of session.new)) }
     ensures world { session.new.world ≡ session.old.world }
     ensures same { IsSamePublisher live.old live.new }
     ensures grown { length (entries_of live.new) ≤ length (entries_of live.old) + MOST_PASSES }
@@ -71,16 +71,16 @@ fn open_session<W: Workspace + Drop, S: Search<W, W::Best> + Drop>(
     search: S,
     task: &Task,
 ) -> Result<Session<W, W::Best, S>, NoMemory>
-    requires task { CanBeMade (site_of W.network W.cells W.Best.says W.wording) world task.now }
-    requires new { IsNewSearch S.meaning (W.network world) (from_of W.wording.back task.now.start task.now.goal)
-        (to_of W.wording.back task.now.start task.now.goal) (S.state search) }
+    requires task { CanBeMade (site_of W.network W.cells W.Best.says W.reporting) world task.now }
+    requires new { IsNewSearch S.meaning (W.network world) (from_of W.reporting.back task.now.start task.now.goal)
+        (to_of W.reporting.back task.now.start task.now.goal) (S.state search) }
     requires serves { S.serves search }
     ensures world { IfOk result (λ s. s.world ≡ world) }
     ensures ready { IfOk result (IsReady S.meaning W.network W.Best.is_made_for) }
-    ensures set { IfOk result (λ s. IsSetFor task.now.how.now (from_of W.wording.back task.now.start task.now.goal)
-        (to_of W.wording.back task.now.start task.now.goal) (standing_of s)) }
-    ensures begun { IfOk result (λ s. GoesOnFrom S.meaning (site_of W.network W.cells W.Best.says W.wording) world
-        (from_of W.wording.back task.now.start task.now.goal) None (standing_of s)) }
+    ensures set { IfOk result (λ s. IsSetFor task.now.how.now (from_of W.reporting.back task.now.start task.now.goal)
+        (to_of W.reporting.back task.now.start task.now.goal) (standing_of s)) }
+    ensures begun { IfOk result (λ s. GoesOnFrom S.meaning (site_of W.network W.cells W.Best.says W.reporting) world
+        (from_of W.reporting.back task.now.start task.now.goal) None (standing_of s)) }
 {
     Session::open(alloc, world, search, task.how.budget)
 }
@@ -103,13 +103,13 @@ pub(crate) fn go_through<
     desk: &mut D,
 ) -> u8
 where
-    S::Note: Traced,
-    requires task { CanBeMade (site_of W.network W.cells W.Best.says W.wording) world task.now }
+    S::Action: Traced,
+    requires task { CanBeMade (site_of W.network W.cells W.Best.says W.reporting) world task.now }
     requires few { length (entries_of live.old) < 2 ^ 62 }
-    requires new { IsNewSearch S.meaning (W.network world) (from_of W.wording.back task.now.start task.now.goal)
-        (to_of W.wording.back task.now.start task.now.goal) (S.state search) }
+    requires new { IsNewSearch S.meaning (W.network world) (from_of W.reporting.back task.now.start task.now.goal)
+        (to_of W.reporting.back task.now.start task.now.goal) (S.state search) }
     requires serves { S.serves search }
-    ensures ends { EndsTask (known_by (site_of W.network W.cells W.Best.says W.wording) S.meaning S.Note.line)
+    ensures ends { EndsTask (planner_on (site_of W.network W.cells W.Best.says W.reporting) S.meaning S.Action.line)
         (T.written telling.now) world task.now (entries_of live.old) (entries_of live.new)
         (D.state desk.old) (D.state desk.new) result }
     ensures same { IsSamePublisher live.old live.new }
@@ -121,24 +121,24 @@ where
         Ok(session) => session,
         Err(NoMemory) => return 9,
     };
-    let course = task.course;
+    let updates = task.updates;
     let mut start = task.start;
-    for k in 0..course.batches.batches() {
+    for k in 0..updates.batches.batches() {
         let turn = Turn { plan: k, start };
         if let Err(stop) = make_plan(alloc, &mut session, task, turn, live, telling, desk) {
             return status_after(Err(stop), 9);
         }
-        if let Err(NoMemory) = session.change(alloc, course.batches.batch(k)) {
+        if let Err(NoMemory) = session.change(alloc, updates.batches.batch(k)) {
             return 9;
         }
-        start = session.world().start_at(place_in(course, k), start);
+        start = session.world().start_at(place_in(updates, k), start);
         let (_from, to) = W::way(start, task.goal);
         if let Err(NoMemory) = session.aim(alloc, to) {
             return 9;
         }
     }
     let last = Turn {
-        plan: course.batches.batches(),
+        plan: updates.batches.batches(),
         start,
     };
     match make_plan(alloc, &mut session, task, last, live, telling, desk) {

@@ -1,6 +1,6 @@
 //! What the plans of a job are asked for.
 
-use sbpl_worlds::{Course, Outputs, SearchJob};
+use sbpl_worlds::{Outputs, SearchJob, Updates};
 
 /// What the plans of a job are asked for: how they are searched, what is written of them, how the map changes from plan to
 /// plan and the robot moves, from which state the first goes, and to which all go.
@@ -8,7 +8,7 @@ use sbpl_worlds::{Course, Outputs, SearchJob};
 pub struct Task<'a> {
     pub how: &'a SearchJob,
     pub outputs: &'a Outputs,
-    pub course: &'a Course,
+    pub updates: &'a Updates,
     pub start: u32,
     pub goal: u32,
 }

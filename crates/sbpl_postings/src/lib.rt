@@ -17,7 +17,7 @@ mod wrapping;
 
 pub use drain::Drain;
 pub use laws::lines_keep_order;
-pub use line::Line;
+pub use line::UnnamedQueue;
 pub use lined::Lined;
 pub use post::{Post, Sent};
 pub use posting::Posting;

@@ -13,12 +13,12 @@ use std::marker::{Model, PhantomData};
 /// A line with its drain, before it has a name: no sender was made, and nothing was put in. Contracts see it as the table
 /// that it is made of.
 #[derive(Drop)]
-pub struct Line<N: Pass, M: Naming> {
+pub struct UnnamedQueue<N: Pass, M: Naming> {
     postings: Postings<N, M>,
     pass: PostingPass<N, M>,
 }
 
-impl<N: Pass, M: Naming> Model for Line<N, M> {
+impl<N: Pass, M: Naming> Model for UnnamedQueue<N, M> {
     ghost use Rattle.std.specs.Prelude.{◌≡◌, []};
     ghost use Rattle.atomic_table.specs.Seated.{TableId, table_id_coded};
     ghost use Rattle.crossbeam_queue.specs.Passes.{view as known_by};
@@ -34,16 +34,16 @@ impl<N: Pass, M: Naming> Model for Line<N, M> {
     ghost invariant = { λ a. (a.pass.table_id ≡ line_of a.postings) × (a.pass.me.1 ≡ []) × (known_by a.pass ≡ none_made) };
 }
 
-impl<N: Pass, M: Naming> Line<N, M> {
+impl<N: Pass, M: Naming> UnnamedQueue<N, M> {
     /// A line of its own, which holds as many postings as there are seats, 1 to 64. The one error is that memory ran out, and no
     /// other call takes memory.
-    pub fn new(alloc: Global, seats: u32) -> Result<Line<N, M>, NoMemory>
+    pub fn new(alloc: Global, seats: u32) -> Result<UnnamedQueue<N, M>, NoMemory>
         requires some { 1 ≤ seats }
         requires few { seats ≤ 64 }
         ensures room { IfOk result (λ line. line.slots ≡ seats) }
     {
         let (postings, pass) = Postings::<N, M>::ruled(alloc, seats as usize)?;
-        Ok(Line { postings, pass })
+        Ok(UnnamedQueue { postings, pass })
     }
 
     /// Gives the queue and its drain under a name.
@@ -51,7 +51,7 @@ impl<N: Pass, M: Naming> Line<N, M> {
         requires name { self ≡ L.line }
         ensures drain { result.1 ≡ nothing_came }
     {
-        let Line { postings, pass } = self;
+        let UnnamedQueue { postings, pass } = self;
         let queue = Queue {
             postings,
             of: PhantomData,

@@ -35,8 +35,8 @@ module _ (held : Told) (F G : Names) where
 
   labels_cause_on : {W : Type 0} (f : WorldFiles W) (changes : Option (List ℕ)) (labels : List ℕ) (r : Refusal)
       → IsFailedOn F G r → IsLabelsCause held F f changes labels r → IsLabelsCause held G f changes labels r
-  labels_cause_on f changes labels (refusal.Read input.Labels) on (w, course, says, changes_say, failed) =
-      (w, course, says, changes_say, on refl labels failed)
+  labels_cause_on f changes labels (refusal.Read input.Labels) on (w, updates, says, changes_say, failed) =
+      (w, updates, says, changes_say, on refl labels failed)
   labels_cause_on f changes labels _ on cause = cause
 
   early_cause_on : {W : Type 0} (f : WorldFiles W) (changes : Option (List ℕ)) (r : Refusal)

@@ -31,37 +31,37 @@ is_determined planner.Epase = false
 
 -- a planner's search: what its passes note, what its calls mean, and how a note is told in a trace
 pub record Search : Type 1 where
-  pub Note : Type 0
-  pub means : Meaning Note
-  pub line : Note → TraceLine
+  pub Action : Type 0
+  pub means : Meaning Action
+  pub line : Action → TraceLine
 
 abbrev pub search_of : Planner → Search
-search_of planner.Ara = record { Note = Step; means = ara; line = line_of }
-search_of planner.AdStar = record { Note = Step; means = adstar; line = line_of }
-search_of planner.Back = record { Note = Step; means = adstar; line = line_of }
-search_of planner.Epase = record { Note = Event; means = epase; line = line_of_event }
+search_of planner.Ara = record { Action = Step; means = ara; line = line_of }
+search_of planner.AdStar = record { Action = Step; means = adstar; line = line_of }
+search_of planner.Back = record { Action = Step; means = adstar; line = line_of }
+search_of planner.Epase = record { Action = Event; means = epase; line = line_of_event }
 
 -- a planner as the program knows it: its search, and the site that it searches
-pub record Known (W : Type 0) : Type 1 where
+pub record PlannerOn (W : Type 0) : Type 1 where
   pub on : Site W
-  pub Note : Type 0
-  pub means : Meaning Note
-  pub line : Note → TraceLine
+  pub Action : Type 0
+  pub means : Meaning Action
+  pub line : Action → TraceLine
 
-abbrev pub known_by : {W Note : Type 0} → Site W → Meaning Note → (Note → TraceLine) → Known W
-known_by {Note} on means line = record { on = on; Note = Note; means = means; line = line }
+abbrev pub planner_on : {W Action : Type 0} → Site W → Meaning Action → (Action → TraceLine) → PlannerOn W
+planner_on {Action} on means line = record { on = on; Action = Action; means = means; line = line }
 
 -- a planner on a site that is searched as it is
-abbrev pub known_as : {W : Type 0} → Site W → Planner → Known W
-known_as on p = record { on = on; Note = (search_of p).Note; means = (search_of p).means; line = (search_of p).line }
+abbrev pub planner_as_is : {W : Type 0} → Site W → Planner → PlannerOn W
+planner_as_is on p = record { on = on; Action = (search_of p).Action; means = (search_of p).means; line = (search_of p).line }
 
 -- a planner whose plans are told of a site; `back` searches that site the other way round
-abbrev pub known : {W : Type 0} → Site W → Planner → Known W
-known on p = known_as (searched_on on (may_move p)) p
+abbrev pub planner_for : {W : Type 0} → Site W → Planner → PlannerOn W
+planner_for on p = planner_as_is (searched_on on (may_move p)) p
 
 -- of the start and the goal of a plan, the state from which such a planner searches, and the one to which
-abbrev pub from_by : {W : Type 0} → Known W → (start goal : ℕ) → ℕ
-from_by by = from_of by.on.wording.back
+abbrev pub from_by : {W : Type 0} → PlannerOn W → (start goal : ℕ) → ℕ
+from_by by = from_of by.on.reporting.back
 
-abbrev pub to_by : {W : Type 0} → Known W → (start goal : ℕ) → ℕ
-to_by by = to_of by.on.wording.back
+abbrev pub to_by : {W : Type 0} → PlannerOn W → (start goal : ℕ) → ℕ
+to_by by = to_of by.on.reporting.back

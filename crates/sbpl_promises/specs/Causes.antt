@@ -22,8 +22,8 @@ use Rattle.sbpl_report.specs.declared.refusal.Input.TheVariants as input
 use Rattle.sbpl_report.specs.declared.refusal.Refusal.{Refusal}
 use Rattle.sbpl_report.specs.declared.refusal.Refusal.TheVariants as refusal
 use Rattle.sbpl_report.specs.Refusals.{refusal_status}
-use Rattle.sbpl_report.specs.declared.refusal.Stop.{Stop}
-use Rattle.sbpl_report.specs.declared.refusal.Stop.TheVariants as stop
+use Rattle.sbpl_report.specs.declared.refusal.JobStop.{JobStop}
+use Rattle.sbpl_report.specs.declared.refusal.JobStop.TheVariants as stop
 use Rattle.sbpl_report.specs.sbpl_job.declared.job.Job.{Job}
 use Rattle.sbpl_report.specs.sbpl_job.declared.job.Job.TheVariants as job
 use Rattle.sbpl_report.specs.sbpl_job.Jobs.{may_move}
@@ -45,7 +45,7 @@ use Rattle.sbpl_promises.specs.Sites.{Site}
 use Rattle.sbpl_promises.specs.WorldFiles.{WorldFiles}
 use Rattle.sbpl_promises.specs.Published.{Entry}
 use Rattle.sbpl_promises.specs.Writing.{DeskState, IsNamed, Names, ReadFailed, Told}
-use Rattle.sbpl_promises.specs.declared.course.Course.{Course}
+use Rattle.sbpl_promises.specs.declared.updates.Updates.{Updates}
 use Rattle.sbpl_report.specs.sbpl_cfg.Faults as env_faults
 use Rattle.sbpl_report.specs.sbpl_lists.Messages.{IsMessageAt, IsMessageOnLine, IsPlainMessage}
 use Rattle.sbpl_report.specs.sbpl_map.Faults as change_faults
@@ -91,37 +91,37 @@ pub record ReadsWorld (held : Told) (from : Sources) (w : World) : Type 0 where
 abbrev pub scope_of : (moving : Bool) → World → Scope
 scope_of moving w = scope_for moving w.env w.map
 
--- the change file stands for a course; where there is none, there are no batches
-abbrev pub ReadsCourse : Told → Option (List ℕ) → Scope → Course → Type 0
-ReadsCourse held None s c = c ≡ still []
-ReadsCourse held (Some name) s c = (text : List ℕ) × IsReadText (held name) text × IsChangeText s text c
+-- the change file stands for map updates; where there is none, there are no batches
+abbrev pub ReadsUpdates : Told → Option (List ℕ) → Scope → Updates → Type 0
+ReadsUpdates held None s c = c ≡ still []
+ReadsUpdates held (Some name) s c = (text : List ℕ) × IsReadText (held name) text × IsChangeText s text c
 
 -- where the robot is, if that is said: on the map of a world, with one of its headings, a place or none for each batch
 pub record AreMovesIn {W : Type 0} (on : Site W) (w : W) (batches : List (List Write)) (moves : List (Option Place)) : Type 0 where
-  pub places : ArePlacesOnMap (on.cells.map w) (on.wording.headings w) moves
+  pub places : ArePlacesOnMap (on.cells.map w) (on.reporting.headings w) moves
   pub each : length moves ≡ length batches
 
--- the batches of a course are on the map of a world, and the robot too, which stays where it may not move
-pub record IsCourseIn {W : Type 0} (on : Site W) (moving : Bool) (w : W) (c : Course) : Type 0 where
+-- the batches of map updates are on the map of a world, and the robot too, which stays where it may not move
+pub record AreUpdatesIn {W : Type 0} (on : Site W) (moving : Bool) (w : W) (c : Updates) : Type 0 where
   pub on_map : AreOnMap (on.cells.map w) c.batches
   pub moves : IfSome c.moves (AreMovesIn on w c.batches)
   pub stays : moving ≡ false → c.moves ≡ None
 
--- a world and a course that were read: the files stand for them
-pub record AreRead {W : Type 0} (held : Told) (f : WorldFiles W) (changes : Option (List ℕ)) (w : W) (c : Course) : Type 0 where
+-- a world and map updates that were read: the files stand for them
+pub record AreRead {W : Type 0} (held : Told) (f : WorldFiles W) (changes : Option (List ℕ)) (w : W) (c : Updates) : Type 0 where
   pub says : f.stand_for held w
   pub is_world : f.on.cells.is_made w
-  pub course_is : ReadsCourse held changes (f.scope w) c
-  pub in_world : IsCourseIn f.on f.moves w c
+  pub updates_are : ReadsUpdates held changes (f.scope w) c
+  pub in_world : AreUpdatesIn f.on f.moves w c
 
--- The files stand for a world and a course, and these are records of plans in it: all of them, or the first few, after which memory may
+-- The files stand for a world and map updates, and these are records of plans in it: all of them, or the first few, after which memory may
 -- run out in a plan whose passes found this. These entries were published before them.
 pub record ArePlanned {W : Type 0} (held : Told) (f : WorldFiles W) (changes : Option (List ℕ)) (search : SearchJob) (outputs : Outputs) (records : List PlanRecord) (all : Bool) (log : List Entry) (broken : List Found) : Type 0 where
   pub world : W
-  pub course : Course
+  pub updates : Updates
   pub says : f.stand_for held world
-  pub changes_say : ReadsCourse held changes (f.scope world) course
-  pub plans : ArePlans f.on world course search outputs records all log broken
+  pub changes_say : ReadsUpdates held changes (f.scope world) updates
+  pub plans : ArePlans f.on world updates search outputs records all log broken
 
 -- how a demonstration is planned: by Anytime D*, with the inflations 3.000, 2.500 and so on to 1.000
 abbrev pub demo_search : SearchJob
@@ -224,9 +224,9 @@ IsChangesCause held Failed f changes (refusal.Read input.Changes) = AtChanges he
 IsChangesCause held Failed f changes (refusal.Length input.Changes) = AtChanges held f changes (λ name s. IsTooLong (held name))
 IsChangesCause held Failed f changes _ = ⊥
 
--- the files stand for a world and a course, and this holds of the file of labels
+-- the files stand for a world and map updates, and this holds of the file of labels
 abbrev pub AtLabels : {W : Type 0} → Told → WorldFiles W → Option (List ℕ) → Type 0 → Type 0
-AtLabels {W} held f changes P = (w : W) × (c : Course) × f.stand_for held w × ReadsCourse held changes (f.scope w) c × P
+AtLabels {W} held f changes P = (w : W) × (c : Updates) × f.stand_for held w × ReadsUpdates held changes (f.scope w) c × P
 
 -- why a job is refused for its file of labels: it was not read
 abbrev pub IsLabelsCause : {W : Type 0} → Told → Names → WorldFiles W → Option (List ℕ) → (labels : List ℕ) → Refusal → Type 0
@@ -314,57 +314,57 @@ IsJobCause held Failed (job.Nav j) r = IsEarlyCause held Failed (grid_files j.en
 IsJobCause held Failed (job.NavCheck j) r = IsCheckCause held Failed (grid_files j.env) j.changes j.labels r
 
 -- a refusal with a cause; or memory ran out
-abbrev pub StopsFor : (Refusal → Type 0) → Stop → Type 0
+abbrev pub StopsFor : (Refusal → Type 0) → JobStop → Type 0
 StopsFor IsWhy (stop.Refused r m) = IsWhy r
 StopsFor IsWhy stop.NoMemory = Unit {0}
 
 -- why a job stopped before anything was written
-abbrev pub JobStopsFor : (before after : DeskState) → Job → Stop → Type 0
+abbrev pub JobStopsFor : (before after : DeskState) → Job → JobStop → Type 0
 JobStopsFor before after j s = StopsFor (IsJobCause before.held (ReadFailed before after) j) s
 
 -- why no lattice was made
-abbrev pub LatticeStopsFor : (before after : DeskState) → Sources → Stop → Type 0
+abbrev pub LatticeStopsFor : (before after : DeskState) → Sources → JobStop → Type 0
 LatticeStopsFor before after from s = StopsFor (IsCause before.held (ReadFailed before after) from) s
 
 -- why no world with its changes was read
-abbrev pub EarlyStopsFor : {W : Type 0} → (before after : DeskState) → WorldFiles W → Option (List ℕ) → Stop → Type 0
+abbrev pub EarlyStopsFor : {W : Type 0} → (before after : DeskState) → WorldFiles W → Option (List ℕ) → JobStop → Type 0
 EarlyStopsFor before after f changes s = StopsFor (IsEarlyCause before.held (ReadFailed before after) f changes) s
 
 -- or the file of labels
-abbrev pub CheckStopsFor : {W : Type 0} → (before after : DeskState) → WorldFiles W → Option (List ℕ) → (labels : List ℕ) → Stop → Type 0
+abbrev pub CheckStopsFor : {W : Type 0} → (before after : DeskState) → WorldFiles W → Option (List ℕ) → (labels : List ℕ) → JobStop → Type 0
 CheckStopsFor before after f changes labels s = StopsFor (IsCheckCause before.held (ReadFailed before after) f changes labels) s
 
 -- why the file of a name was not read, and what is told of that
-abbrev pub IsUnread : (before after : DeskState) → List ℕ → Input → Stop → Type 0
+abbrev pub IsUnread : (before after : DeskState) → List ℕ → Input → JobStop → Type 0
 IsUnread before after name i (stop.Refused (refusal.Read j) m) = (j ≡ i) × ReadFailed before after name × IsPlainMessage name m
 IsUnread before after name i (stop.Refused (refusal.Length j) m) = (j ≡ i) × IsTooLong (before.held name) × (m ≡ [])
 IsUnread before after name i (stop.Refused _ m) = ⊥
 IsUnread before after name i stop.NoMemory = Unit {0}
 
 -- why no grid was made
-abbrev pub GridStopsFor : (before after : DeskState) → (env : List ℕ) → Stop → Type 0
+abbrev pub GridStopsFor : (before after : DeskState) → (env : List ℕ) → JobStop → Type 0
 GridStopsFor before after env s = StopsFor (IsGridCause before.held (ReadFailed before after) env) s
 
 -- why the text of the environment file of a grid, of this name, was refused, and what is told of that
-abbrev pub IsGridRefused : (name text : List ℕ) → Stop → Type 0
+abbrev pub IsGridRefused : (name text : List ℕ) → JobStop → Type 0
 IsGridRefused name text (stop.Refused (refusal.Grid f) m) = HasGridFault text f × IsMessageAt name text (env_faults.place_of f) m
 IsGridRefused name text (stop.Refused _ m) = ⊥
 IsGridRefused name text stop.NoMemory = Unit {0}
 
 -- why the text of an environment file was refused, and what is told of that
-abbrev pub IsEnvironmentRefused : (name text : List ℕ) → Stop → Type 0
+abbrev pub IsEnvironmentRefused : (name text : List ℕ) → JobStop → Type 0
 IsEnvironmentRefused name text (stop.Refused (refusal.Environment f) m) = HasEnvironmentFault text f × IsMessageAt name text (env_faults.place_of f) m
 IsEnvironmentRefused name text (stop.Refused _ m) = ⊥
 IsEnvironmentRefused name text stop.NoMemory = Unit {0}
 
 -- why the text of a primitive file was refused, and what is told of that
-abbrev pub IsPrimitivesRefused : Environment → (name text : List ℕ) → Stop → Type 0
+abbrev pub IsPrimitivesRefused : Environment → (name text : List ℕ) → JobStop → Type 0
 IsPrimitivesRefused e name text (stop.Refused (refusal.Primitives f) m) = HasPrimitiveFault e text f × IsMessageAt name text (prim_faults.place_of f) m
 IsPrimitivesRefused e name text (stop.Refused _ m) = ⊥
 IsPrimitivesRefused e name text stop.NoMemory = Unit {0}
 
 -- why the primitive file, for an environment, was refused
-abbrev pub PrimitivesStopFor : (before after : DeskState) → Sources → Environment → Stop → Type 0
+abbrev pub PrimitivesStopFor : (before after : DeskState) → Sources → Environment → JobStop → Type 0
 PrimitivesStopFor before after from e (stop.Refused (refusal.Primitives f) m) = IsFaultyFor before.held from e f
 PrimitivesStopFor before after from e (stop.Refused (refusal.Read input.Primitives) m) = ReadFailed before after from.prims
 PrimitivesStopFor before after from e (stop.Refused (refusal.Length input.Primitives) m) = IsTooLong (before.held from.prims)
@@ -372,25 +372,25 @@ PrimitivesStopFor before after from e (stop.Refused _ m) = ⊥
 PrimitivesStopFor before after from e stop.NoMemory = Unit {0}
 
 -- why the sweeps of primitives, of the file of this name, were not made, and what is told of that
-abbrev pub IsWideStop : (name : List ℕ) → Primitives → ℕ → Stop → Type 0
+abbrev pub IsWideStop : (name : List ℕ) → Primitives → ℕ → JobStop → Type 0
 IsWideStop name prims radius (stop.Refused (refusal.TooWide place) m) = IsFirstTooWide prims radius place × IsPlainMessage name m
 IsWideStop name prims radius (stop.Refused _ m) = ⊥
 IsWideStop name prims radius stop.NoMemory = Unit {0}
 
 -- the primitive of this place, of the file of this name, costs too much, and what is told of that
-abbrev pub IsDearStop : (name : List ℕ) → (place : ℕ) → Stop → Type 0
+abbrev pub IsDearStop : (name : List ℕ) → (place : ℕ) → JobStop → Type 0
 IsDearStop name place (stop.Refused (refusal.TooDear i) m) = (i ≡ place) × IsPlainMessage name m
 IsDearStop name place (stop.Refused _ m) = ⊥
 IsDearStop name place stop.NoMemory = Unit {0}
 
 -- why the text of a change file was refused, and what is told of that
-abbrev pub IsChangesRefused : Scope → (name text : List ℕ) → Stop → Type 0
+abbrev pub IsChangesRefused : Scope → (name text : List ℕ) → JobStop → Type 0
 IsChangesRefused s name text (stop.Refused (refusal.Changes f) m) = HasChangeFault s text f × IsMessageOnLine name (change_faults.line_of f) m
 IsChangesRefused s name text (stop.Refused _ m) = ⊥
 IsChangesRefused s name text stop.NoMemory = Unit {0}
 
--- why no course was read
-abbrev pub ChangesStopFor : (before after : DeskState) → Option (List ℕ) → Scope → Stop → Type 0
+-- why no map updates were read
+abbrev pub ChangesStopFor : (before after : DeskState) → Option (List ℕ) → Scope → JobStop → Type 0
 ChangesStopFor before after changes s (stop.Refused (refusal.Changes f) m) = AtName changes (λ name. IsFaultyChanges before.held name s f)
 ChangesStopFor before after changes s (stop.Refused (refusal.Read input.Changes) m) = AtName changes (ReadFailed before after)
 ChangesStopFor before after changes s (stop.Refused (refusal.Length input.Changes) m) = AtName changes (λ name. IsTooLong (before.held name))

@@ -16,7 +16,7 @@ use Rattle.sbpl_report.specs.sbpl_map.CellMap.{CellMap}
 use Rattle.sbpl_report.specs.sbpl_map.MapAfter.{IsMapAfter}
 use Rattle.sbpl_report.specs.sbpl_map.declared.write.Write.{Write}
 use Rattle.sbpl_promises.specs.Sites.{Site, from_of, start_after, to_of}
-use Rattle.sbpl_promises.specs.declared.course.Course.{Course}
+use Rattle.sbpl_promises.specs.declared.updates.Updates.{Updates}
 use Rattle.sbpl_promises.specs.declared.section_stop.SectionStop.{SectionStop}
 use Rattle.sbpl_promises.specs.declared.section_stop.SectionStop.TheVariants as stop
 
@@ -89,16 +89,16 @@ pub record Case {W : Type 0} (on : Site W) : Type 0 where
   pub starts : ℕ → ℕ
   pub goal : ℕ
 
--- the case of a world and a course, between these states
-abbrev pub case_of : {W : Type 0} → (on : Site W) → W → Course → (start goal : ℕ) → Case on
-case_of on w course start goal = record { world = w; batches = course.batches; starts = start_after on.wording w start course.moves; goal = goal }
+-- the case of a world and map updates, between these states
+abbrev pub case_of : {W : Type 0} → (on : Site W) → W → Updates → (start goal : ℕ) → Case on
+case_of on w updates start goal = record { world = w; batches = updates.batches; starts = start_after on.reporting w start updates.moves; goal = goal }
 
 -- the state from which the search of plan k goes, and the one to which
 abbrev pub from_in : {W : Type 0} → {on : Site W} → Case on → ℕ → ℕ
-from_in {W} {on} c k = from_of on.wording.back (c.starts k) c.goal
+from_in {W} {on} c k = from_of on.reporting.back (c.starts k) c.goal
 
 abbrev pub to_in : {W : Type 0} → {on : Site W} → Case on → ℕ → ℕ
-to_in {W} {on} c k = to_of on.wording.back (c.starts k) c.goal
+to_in {W} {on} c k = to_of on.reporting.back (c.starts k) c.goal
 
 -- the graph over which plan k is searched, on the map after the first k batches, and what guides it
 pub record IsGroundAfter {W : Type 0} {on : Site W} (c : Case on) (k : ℕ) (n : Ground) : Type 0 where

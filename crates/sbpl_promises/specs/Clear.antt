@@ -14,7 +14,7 @@ use Rattle.sbpl_report.specs.sbpl_cert.declared.section.Section.{Section}
 use Rattle.sbpl_report.specs.sbpl_cert.Flaws.{HasFlaw, HasNoFlaw, IsFirstFlaw}
 use Rattle.sbpl_report.specs.sbpl_cert.Text.{AreTokens, AreTokensOf, HasFault}
 use Rattle.sbpl_report.specs.sbpl_cert.Versions.{claim_by}
-use Rattle.sbpl_promises.specs.declared.course.Course.{Course}
+use Rattle.sbpl_promises.specs.declared.updates.Updates.{Updates}
 use Rattle.sbpl_nav2d.specs.Environment.{NavEnvironment}
 use Rattle.sbpl_promises.specs.Texts.{HasChangeFault, HasEnvironmentFault, HasGridFault, HasPrimitiveFault, IsChangeText, IsEnvironmentText, IsGridText, IsPrimitiveText, Scope}
 
@@ -29,8 +29,8 @@ pub record TextsAreClear : Type 0 where
   pub grid : (text : List ℕ) (e d : NavEnvironment) (cells others : List ℕ) → IsGridText text e cells → IsGridText text d others → (e ≡ d) × (cells ≡ others)
   pub grid_fault : (text : List ℕ) (e : NavEnvironment) (cells : List ℕ) (f : EnvFault) → IsGridText text e cells → HasGridFault text f → ⊥
   pub one_grid_fault : (text : List ℕ) (f g : EnvFault) → HasGridFault text f → HasGridFault text g → f ≡ g
-  pub changes : (s : Scope) (text : List ℕ) (c d : Course) → IsChangeText s text c → IsChangeText s text d → c ≡ d
-  pub change_fault : (s : Scope) (text : List ℕ) (c : Course) (f : ChangeFault) → IsChangeText s text c → HasChangeFault s text f → ⊥
+  pub changes : (s : Scope) (text : List ℕ) (c d : Updates) → IsChangeText s text c → IsChangeText s text d → c ≡ d
+  pub change_fault : (s : Scope) (text : List ℕ) (c : Updates) (f : ChangeFault) → IsChangeText s text c → HasChangeFault s text f → ⊥
   pub one_change_fault : (s : Scope) (text : List ℕ) (f g : ChangeFault) → HasChangeFault s text f → HasChangeFault s text g → f ≡ g
 
 -- one section of labels stands in tokens, or they have one first fault, and never both; a section has one first flaw, or none

@@ -16,7 +16,7 @@ use Rattle.sbpl_promises.specs.Sites.{Site}
 use Rattle.sbpl_promises.specs.Published.{Entry}
 use Rattle.sbpl_promises.specs.Intents.{Intent, Refused, Planned, Checked, Listed, Demonstrated}
 use Rattle.sbpl_promises.specs.Promises.{IsChecked, IsDemonstration}
-use Rattle.sbpl_promises.specs.declared.course.Course.{Course}
+use Rattle.sbpl_promises.specs.declared.updates.Updates.{Updates}
 use Rattle.sbpl_promises.specs.Writing.{DeskState, Names, ReadFailed, Told, Write, text_under}
 
 -- ---- records of plans
@@ -28,16 +28,16 @@ pub record AreAlikeWorlds (w v : World) : Type 0 where
   pub map : v.map ≡ w.map
   pub radius : v.sweeps.radius ≡ w.sweeps.radius
 
--- all plans in alike worlds of a site, over the same course and asked the same, after the same entries, by a planner whose passes are determined,
+-- all plans in alike worlds of a site, over the same map updates and asked the same, after the same entries, by a planner whose passes are determined,
 -- have one list of records
 abbrev pub RecordsAreOne : {W : Type 0} → Site W → (Alike : W → W → Type 0) → Type 0
-RecordsAreOne {W} on Alike = (w v : W) (course : Course) (how : SearchJob) (outputs : Outputs) (log : List Entry) (records others : List PlanRecord) (broken also : List Found)
-    → is_determined how.planner ≡ true → Alike w v → ArePlans on w course how outputs records true log broken → ArePlans on v course how outputs others true log also → records ≡ others
+RecordsAreOne {W} on Alike = (w v : W) (updates : Updates) (how : SearchJob) (outputs : Outputs) (log : List Entry) (records others : List PlanRecord) (broken also : List Found)
+    → is_determined how.planner ≡ true → Alike w v → ArePlans on w updates how outputs records true log broken → ArePlans on v updates how outputs others true log also → records ≡ others
 
 -- and records of the first few plans are the first few of it
 abbrev pub FewAreFirst : {W : Type 0} → Site W → (Alike : W → W → Type 0) → Type 0
-FewAreFirst {W} on Alike = (w v : W) (course : Course) (how : SearchJob) (outputs : Outputs) (log : List Entry) (few records : List PlanRecord) (all : Bool) (broken also : List Found)
-    → is_determined how.planner ≡ true → Alike w v → ArePlans on w course how outputs few all log broken → ArePlans on v course how outputs records true log also
+FewAreFirst {W} on Alike = (w v : W) (updates : Updates) (how : SearchJob) (outputs : Outputs) (log : List Entry) (few records : List PlanRecord) (all : Bool) (broken also : List Found)
+    → is_determined how.planner ≡ true → Alike w v → ArePlans on w updates how outputs few all log broken → ArePlans on v updates how outputs records true log also
     → (rest : List PlanRecord) × (records ≡ few ++ rest)
 
 -- ---- what the words and the files call for

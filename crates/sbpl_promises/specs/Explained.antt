@@ -16,8 +16,8 @@ use Rattle.sbpl_report.specs.declared.refusal.Input.{Input}
 use Rattle.sbpl_report.specs.declared.refusal.Input.TheVariants as input
 use Rattle.sbpl_report.specs.declared.refusal.Refusal.{Refusal}
 use Rattle.sbpl_report.specs.declared.refusal.Refusal.TheVariants as refusal
-use Rattle.sbpl_report.specs.declared.refusal.Stop.{Stop}
-use Rattle.sbpl_report.specs.declared.refusal.Stop.TheVariants as stop
+use Rattle.sbpl_report.specs.declared.refusal.JobStop.{JobStop}
+use Rattle.sbpl_report.specs.declared.refusal.JobStop.TheVariants as stop
 use Rattle.sbpl_report.specs.Refusals.{file_name, input_name}
 use Rattle.sbpl_promises.specs.declared.section_stop.SectionStop.TheVariants as section
 use Rattle.sbpl_promises.specs.Causes.{IsReadText, check_files, grid_files}
@@ -62,29 +62,29 @@ Explains held names (refusal.Read i) m = IsPlainMessage (names i) m
 Explains held names (refusal.Length i) m = m ≡ []
 
 -- what is told of a stop, where files have these names
-abbrev pub ExplainsStop : Told → (Input → List ℕ) → Stop → Type 0
+abbrev pub ExplainsStop : Told → (Input → List ℕ) → JobStop → Type 0
 ExplainsStop held names (stop.Refused r m) = Explains held names r m
 ExplainsStop held names stop.NoMemory = Unit {0}
 
 -- of a stop for the files of a lattice, whatever other files the job reads
-abbrev pub ExplainsLattice : Told → Sources → Stop → Type 0
+abbrev pub ExplainsLattice : Told → Sources → JobStop → Type 0
 ExplainsLattice held from s = (changes labels : Option (List ℕ)) → ExplainsStop held (file_name from.env (Some from.prims) changes labels) s
 
 -- for these, or for the change file
-abbrev pub ExplainsCourse : Told → Sources → (changes : Option (List ℕ)) → Stop → Type 0
-ExplainsCourse held from changes s = (labels : Option (List ℕ)) → ExplainsStop held (file_name from.env (Some from.prims) changes labels) s
+abbrev pub ExplainsUpdates : Told → Sources → (changes : Option (List ℕ)) → JobStop → Type 0
+ExplainsUpdates held from changes s = (labels : Option (List ℕ)) → ExplainsStop held (file_name from.env (Some from.prims) changes labels) s
 
 -- for the change file
-abbrev pub ExplainsChanges : Told → (changes : Option (List ℕ)) → Stop → Type 0
+abbrev pub ExplainsChanges : Told → (changes : Option (List ℕ)) → JobStop → Type 0
 ExplainsChanges held changes s = (env : List ℕ) (prims labels : Option (List ℕ)) → ExplainsStop held (file_name env prims changes labels) s
 
 -- for the file of a grid
-abbrev pub ExplainsGrid : Told → (env : List ℕ) → Stop → Type 0
+abbrev pub ExplainsGrid : Told → (env : List ℕ) → JobStop → Type 0
 ExplainsGrid held env s = (changes labels : Option (List ℕ)) → ExplainsStop held (file_name env None changes labels) s
 
 -- for it, or for its change file
-abbrev pub ExplainsGridCourse : Told → (env : List ℕ) → (changes : Option (List ℕ)) → Stop → Type 0
-ExplainsGridCourse held env changes s = (labels : Option (List ℕ)) → ExplainsStop held (file_name env None changes labels) s
+abbrev pub ExplainsGridUpdates : Told → (env : List ℕ) → (changes : Option (List ℕ)) → JobStop → Type 0
+ExplainsGridUpdates held env changes s = (labels : Option (List ℕ)) → ExplainsStop held (file_name env None changes labels) s
 
 -- the program's name, which stands where a message is on no file
 abbrev pub program : List ℕ

@@ -16,23 +16,23 @@ use Rattle.sbpl_report.specs.sbpl_map.MapAfter.{IsMapAfter}
 use Rattle.sbpl_report.specs.sbpl_map.declared.write.Write.{Write}
 use Rattle.sbpl_replan.specs.Replanning.{BeginsWith}
 use Rattle.sbpl_report.specs.sbpl_search.Meaning.{Meaning}
-use Rattle.sbpl_report.specs.sbpl_plan.declared.passes.Pass.{Pass}
+use Rattle.sbpl_report.specs.sbpl_plan.declared.passes.PassRecord.{PassRecord}
 use Rattle.sbpl_report.specs.declared.record.PathStep.{PathStep}
 use Rattle.sbpl_report.specs.declared.record.PathRecord.{PathRecord}
 use Rattle.sbpl_report.specs.declared.record.PlanRecord.{PlanRecord}
 use Rattle.sbpl_report.specs.sbpl_job.declared.job.Outputs.{Outputs}
 use Rattle.sbpl_report.specs.sbpl_job.declared.job.SearchJob.{SearchJob}
-use Rattle.sbpl_promises.specs.Asked.{Known, ask_of, from_by, known, to_by}
+use Rattle.sbpl_promises.specs.Asked.{PlannerOn, ask_of, from_by, planner_for, to_by}
 use Rattle.sbpl_promises.specs.Sites.{Leads, Site, start_after}
 use Rattle.sbpl_report.specs.Traces.{traced_pass}
 use Rattle.sbpl_report.specs.Shown.{IsShown, IsThere}
 use Rattle.sbpl_promises.specs.Published.{Entry, founds, newest, with_plan}
-use Rattle.sbpl_promises.specs.declared.course.Course.{Course}
+use Rattle.sbpl_promises.specs.declared.updates.Updates.{Updates}
 
 -- from state s these are the steps of the path that the arcs are
 abbrev pub AreSteps : {W : Type 0} → Site W → W → ℕ → List ℕ → List PathStep → Type 0
 AreSteps on w s [] [] = Unit {0}
-AreSteps on w s (k ∷ ks) (step ∷ steps) = (t : ℕ) × ((on.wording.told w).head s k ≡ Some t) × on.wording.step w s k t step × AreSteps on w t ks steps
+AreSteps on w s (k ∷ ks) (step ∷ steps) = (t : ℕ) × ((on.reporting.told w).head s k ≡ Some t) × on.reporting.step w s k t step × AreSteps on w t ks steps
 AreSteps on w s _ _ = ⊥
 
 -- from state s these arcs are a free path to some state
@@ -41,8 +41,8 @@ IsPathFrom n s arcs = (t : ℕ) × (c : ℕ) × IsFreePath n s arcs t c
 
 -- a path joins two states: its arcs are a free path from the one to the other, and the printed places, ids and cost are its own
 pub record JoinsStates {W : Type 0} (on : Site W) (w : W) (start goal : ℕ) (path : PathRecord) : Type 0 where
-  pub free : IsFreePath (on.wording.told w) start path.arcs goal path.cost
-  pub from : path.start ≡ on.wording.spot w start
+  pub free : IsFreePath (on.reporting.told w) start path.arcs goal path.cost
+  pub from : path.start ≡ on.reporting.report_pose w start
   pub steps : AreSteps on w start path.arcs path.steps
 
 -- joins: where the result is a path, it joins start to goal
@@ -89,8 +89,8 @@ pub record IsToldOf (leads : (found path : List ℕ) → Type 0) (found : Outcom
 -- what is promised of a plan between two states: 'asked' is the bound that was asked, in thousandths
 pub record KeepsPromises {W : Type 0} (on : Site W) (w : W) (start goal asked : ℕ) (r : PlanRecord) : Type 0 where
   pub joins : Joins on w start goal r.outcome
-  pub within_the_bound : IsWithinBound (on.wording.told w) start goal r.outcome
-  pub none : IsNoneThere (on.wording.told w) start goal r.outcome
+  pub within_the_bound : IsWithinBound (on.reporting.told w) start goal r.outcome
+  pub none : IsNoneThere (on.reporting.told w) start goal r.outcome
   pub unless_spent : r.spent ≡ None → IsKnownWithin asked r.outcome
 
 -- what the plans of a run leave to the next one: the map of the last of them, its final labels, and how many states all of
@@ -107,7 +107,7 @@ expanded_before (Some b) = b.expanded
 
 -- the labels that a plan in a world begins with, and the states that were raised for it: initial ones, with the state from which the
 -- search goes as their start, and none; and after another plan what the planner makes of the labels that it left
-abbrev pub Begins : {Note W : Type 0} → Meaning Note → Site W → W → (from : ℕ) → Option Carried → Marks → (raised : List ℕ) → Type 0
+abbrev pub Begins : {Action W : Type 0} → Meaning Action → Site W → W → (from : ℕ) → Option Carried → Marks → (raised : List ℕ) → Type 0
 Begins means on w from None m raised = AreInitial m (on.network w).states from × (raised ≡ [])
 Begins means on w from (Some b) m raised = BeginsWith means on.network on.cells (on.cells.over w b.map) w b.labels m raised
 
@@ -121,7 +121,7 @@ IsMarked budget before spent r = MatchBool spent
 -- raised before its passes, where they are to be told; its passes in turn, as few as the step allows; the result by the final labels,
 -- and a section of these labels, where they are to be written. A plan expands no more than its budget, and the run no more than 2 ^ 30.
 -- A budget for each state in each pass, as often as the planner may take one, is not spent, unless the run's is.
-pub record IsSearched {W : Type 0} (by : Known W) (w : W) (how : SearchJob) (outputs : Outputs) (start goal : ℕ) (before : Option Carried) (carried : Carried) (r : PlanRecord) : Type 0 where
+pub record IsSearched {W : Type 0} (by : PlannerOn W) (w : W) (how : SearchJob) (outputs : Outputs) (start goal : ℕ) (before : Option Carried) (carried : Carried) (r : PlanRecord) : Type 0 where
   pub guide : ℕ → ℕ
   pub is_guide : by.on.says w (to_by by start goal) guide
   pub begun : Marks
@@ -129,12 +129,12 @@ pub record IsSearched {W : Type 0} (by : Known W) (w : W) (how : SearchJob) (out
   pub begins : Begins by.means by.on w (from_by by start goal) before begun raised
   pub raises : r.raised ≡ (if is_some outputs.trace then raised else [])
   pub spent : Bool
-  pub notes : List (Pass by.Note)
-  pub passes : ArePasses by.means (inquiry_of (by.on.network w) guide (to_by by start goal) (ask_of how outputs)) how.first begun notes carried.labels spent
-  pub lines : r.passes ≡ map (traced_pass by.line) notes
+  pub actions : List (PassRecord by.Action)
+  pub passes : ArePasses by.means (inquiry_of (by.on.network w) guide (to_by by start goal) (ask_of how outputs)) how.first begun actions carried.labels spent
+  pub lines : r.passes ≡ map (traced_pass by.line) actions
   pub found : Outcome FoundPath
   pub is_result : IsResultOf (by.on.network w) guide (to_by by start goal) carried.labels found
-  pub told : IsToldOf (Leads by.on.wording.back (by.on.wording.told w) start goal) found r.outcome
+  pub told : IsToldOf (Leads by.on.reporting.back (by.on.reporting.told w) start goal) found r.outcome
   pub expanded : r.expanded ≡ expansions r.passes
   pub counted : carried.expanded ≡ expanded_before before + expansions r.passes
   pub within_budget : r.expanded ≤ how.budget
@@ -145,34 +145,34 @@ pub record IsSearched {W : Type 0} (by : Known W) (w : W) (how : SearchJob) (out
   pub labels : IsThere (is_some outputs.labels) (IsShown outputs.form (by.on.network w) guide (from_by by start goal) (to_by by start goal) r.plan carried.labels found) r.labels
 
 -- Memory ran out in a plan: it began as a plan does, and its passes so far found this.
-pub record IsBrokenOff {W : Type 0} (by : Known W) (w : W) (how : SearchJob) (outputs : Outputs) (start goal : ℕ) (before : Option Carried) (found : List Found) : Type 0 where
+pub record IsBrokenOff {W : Type 0} (by : PlannerOn W) (w : W) (how : SearchJob) (outputs : Outputs) (start goal : ℕ) (before : Option Carried) (found : List Found) : Type 0 where
   pub guide : ℕ → ℕ
   pub is_guide : by.on.says w (to_by by start goal) guide
   pub begun : Marks
   pub raised : List ℕ
   pub begins : Begins by.means by.on w (from_by by start goal) before begun raised
   pub left : Marks
-  pub notes : List (Pass by.Note)
-  pub passes : AreFirstPasses by.means (inquiry_of (by.on.network w) guide (to_by by start goal) (ask_of how outputs)) how.first begun notes left
-  pub found_is : found ≡ founds notes
+  pub actions : List (PassRecord by.Action)
+  pub passes : AreFirstPasses by.means (inquiry_of (by.on.network w) guide (to_by by start goal) (ask_of how outputs)) how.first begun actions left
+  pub found_is : found ≡ founds actions
 
 -- memory ran out in plan k, on the map after the first k batches, or before its first pass
-abbrev pub IsBrokenIn : {W : Type 0} → Known W → W → List (List Write) → SearchJob → Outputs → (starts : ℕ → ℕ) → (goal k : ℕ) → List Found → Type 0
+abbrev pub IsBrokenIn : {W : Type 0} → PlannerOn W → W → List (List Write) → SearchJob → Outputs → (starts : ℕ → ℕ) → (goal k : ℕ) → List Found → Type 0
 IsBrokenIn by w batches how outputs starts goal k found =
     (found ≡ []) ⊎ ((m : CellMap) × (before : Option Carried) × IsMapAfter (by.on.cells.map w) batches k m × IsBrokenOff by (by.on.cells.over w m) how outputs (starts k) goal before found)
 
 -- the record of plan k in a world, whose graph has just the arcs that its files make on its map; these entries were published before it, and it tells the newest after it
-pub record IsPlanOf {W : Type 0} (by : Known W) (w : W) (how : SearchJob) (outputs : Outputs) (start goal k : ℕ) (log : List Entry) (before : Option Carried) (carried : Carried) (r : PlanRecord) : Type 0 where
+pub record IsPlanOf {W : Type 0} (by : PlannerOn W) (w : W) (how : SearchJob) (outputs : Outputs) (start goal k : ℕ) (log : List Entry) (before : Option Carried) (carried : Carried) (r : PlanRecord) : Type 0 where
   pub number : r.plan ≡ k
   pub is_world : by.on.cells.is_made w
-  pub arcs : by.on.wording.arcs (by.on.wording.told w) w
+  pub arcs : by.on.reporting.arcs (by.on.reporting.told w) w
   pub promises : KeepsPromises by.on w start goal how.bound r
   pub searched : IsSearched by w how outputs start goal before carried r
   pub incumbent : r.incumbent ≡ newest (with_plan log r)
 
 -- The records of plans in turn, the first of which is plan k: each is made in the world on the map after as many batches as its
 -- number, from its own start, and goes on from the plan before it.
-abbrev pub AreRecords : {W : Type 0} → Known W → W → List (List Write) → SearchJob → Outputs → (starts : ℕ → ℕ) → (goal k : ℕ) → (log : List Entry) → Option Carried → List PlanRecord → Type 0
+abbrev pub AreRecords : {W : Type 0} → PlannerOn W → W → List (List Write) → SearchJob → Outputs → (starts : ℕ → ℕ) → (goal k : ℕ) → (log : List Entry) → Option Carried → List PlanRecord → Type 0
 AreRecords by w batches how outputs starts goal k log before [] = Unit {0}
 AreRecords by w batches how outputs starts goal k log before (r ∷ rs) =
     (carried : Carried) × IsMapAfter (by.on.cells.map w) batches k carried.map
@@ -182,13 +182,13 @@ AreRecords by w batches how outputs starts goal k log before (r ∷ rs) =
 -- These are records of plans in a world of a site, from the start of its environment, or where the robot was last said to be, to its end: of
 -- plan 0 on the map as it is, and then of one plan after each batch of changes. They are all of them, or the first few, and then
 -- memory may run out in a plan whose passes found this. These entries were published before them.
-pub record ArePlans {W : Type 0} (on : Site W) (w : W) (course : Course) (how : SearchJob) (outputs : Outputs) (records : List PlanRecord) (all : Bool) (log : List Entry) (broken : List Found) : Type 0 where
+pub record ArePlans {W : Type 0} (on : Site W) (w : W) (updates : Updates) (how : SearchJob) (outputs : Outputs) (records : List PlanRecord) (all : Bool) (log : List Entry) (broken : List Found) : Type 0 where
   pub start : ℕ
   pub goal : ℕ
-  pub start_is : on.wording.starts w start
-  pub goal_is : on.wording.ends w goal
-  pub each : AreRecords (known on how.planner) w course.batches how outputs (start_after on.wording w start course.moves) goal 0 log None records
-  pub broken_in : IsBrokenIn (known on how.planner) w course.batches how outputs (start_after on.wording w start course.moves) goal (length records) broken
+  pub start_is : on.reporting.starts w start
+  pub goal_is : on.reporting.ends w goal
+  pub each : AreRecords (planner_for on how.planner) w updates.batches how outputs (start_after on.reporting w start updates.moves) goal 0 log None records
+  pub broken_in : IsBrokenIn (planner_for on how.planner) w updates.batches how outputs (start_after on.reporting w start updates.moves) goal (length records) broken
   pub none_broken : all ≡ true → broken ≡ []
-  pub few : length records ≤ length course.batches + 1
-  pub all_made : all ≡ true → length records ≡ length course.batches + 1
+  pub few : length records ≤ length updates.batches + 1
+  pub all_made : all ≡ true → length records ≡ length updates.batches + 1

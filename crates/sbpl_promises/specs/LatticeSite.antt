@@ -13,8 +13,8 @@ use Rattle.sbpl_report.specs.sbpl_cost.TailOrder.{HasLatticeTails}
 use Rattle.sbpl_report.specs.sbpl_cost.World.{World}
 use Rattle.sbpl_replan.specs.sbpl_heur.Bests.{IsBest}
 use Rattle.sbpl_report.specs.declared.record.PathStep.{PathStep}
-use Rattle.sbpl_report.specs.declared.record.Spot.TheVariants as spot
-use Rattle.sbpl_promises.specs.Sites.{Site, Wording}
+use Rattle.sbpl_report.specs.declared.record.ReportPose.TheVariants as report_pose
+use Rattle.sbpl_promises.specs.Sites.{Site, Reporting}
 
 -- the state of a pose: that of its cell and heading
 pub record IsStateOf (e : Environment) (p : Pose) (s : ℕ) : Type 0 where
@@ -28,21 +28,21 @@ pub record IsPathStep (w : World) (s k t : ℕ) (step : PathStep) : Type 0 where
   pub primitive : Primitive
   pub by : IsArcBy w s k index primitive
   pub id : step.id ≡ primitive.id
-  pub spot : step.spot ≡ spot.Pose (place_of w.env t)
+  pub report_pose : step.report_pose ≡ report_pose.Pose (place_of w.env t)
 
 -- a graph has just the arcs that the primitives make on the map, and the tails of these in order
 pub record HasArcsOf (n : Network) (w : World) : Type 0 where
   pub arcs : HasLatticeArcs n w
   pub tails : HasLatticeTails n w
 
-abbrev pub lattice_wording : Wording World
-lattice_wording = record {
+abbrev pub lattice_reporting : Reporting World
+lattice_reporting = record {
   told = network_of;
   back = false;
   arcs = HasArcsOf;
   starts = λ w s. IsStateOf w.env w.env.start s;
   ends = λ w s. IsStateOf w.env w.env.end s;
-  spot = λ w s. spot.Pose (place_of w.env s);
+  report_pose = λ w s. report_pose.Pose (place_of w.env s);
   step = IsPathStep;
   headings = λ w. w.env.headings;
   state = λ w place. state_number w.env place;
@@ -50,4 +50,4 @@ lattice_wording = record {
 
 -- a lattice and the best heuristic
 abbrev pub lattice_site : Site World
-lattice_site = record { network = network_of; cells = lattice_cells; says = IsBest; wording = lattice_wording }
+lattice_site = record { network = network_of; cells = lattice_cells; says = IsBest; reporting = lattice_reporting }

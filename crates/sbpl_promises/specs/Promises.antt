@@ -12,7 +12,7 @@ use Rattle.sbpl_report.specs.sbpl_cost.World.{IsWorld, World}
 use Rattle.sbpl_report.specs.sbpl_cert.declared.fault.LabelFault.{LabelFault}
 use Rattle.sbpl_report.specs.sbpl_cert.declared.flaw.Flaw.{Flaw}
 use Rattle.sbpl_report.specs.sbpl_cert.declared.outcome.Outcome.{Outcome}
-use Rattle.sbpl_promises.specs.Asked.{Known}
+use Rattle.sbpl_promises.specs.Asked.{PlannerOn}
 use Rattle.sbpl_promises.specs.Sites.{Site, searched_on}
 use Rattle.sbpl_nav2d.specs.World.{GridWorld, IsGridWorld}
 use Rattle.sbpl_promises.specs.WorldFiles.{WorldFiles}
@@ -30,11 +30,11 @@ use Rattle.sbpl_report.specs.sbpl_job.declared.job.SearchJob.{SearchJob}
 use Rattle.sbpl_report.specs.sbpl_job.declared.job.Sources.{Sources}
 use Rattle.sbpl_report.specs.declared.record.PlanRecord.{PlanRecord}
 use Rattle.sbpl_report.specs.declared.refusal.Refusal.{Refusal}
-use Rattle.sbpl_promises.specs.Causes.{AreDemonstrated, ArePlanned, IsJobCause, IsReadText, NoneTooDear, ReadsCourse, ReadsWorld, check_files, grid_files, plan_files}
+use Rattle.sbpl_promises.specs.Causes.{AreDemonstrated, ArePlanned, IsJobCause, IsReadText, NoneTooDear, ReadsUpdates, ReadsWorld, check_files, grid_files, plan_files}
 use Rattle.sbpl_report.specs.sbpl_sweep.Widths.{NoneTooWide}
 use Rattle.sbpl_promises.specs.Intents.{BeginsAfter, Intent, Refused, Planned, Checked, Listed, Demonstrated, OutOfMemory, published_by, checked_writes, demo_writes, end_writes, intent_status, listing_writes, outputs_of, plans_status, plans_writes, refusal_writes, statuses, words_writes, writes_of}
 use Rattle.sbpl_report.specs.Refusals.{refusal_status}
-use Rattle.sbpl_promises.specs.declared.course.Course.{Course}
+use Rattle.sbpl_promises.specs.declared.updates.Updates.{Updates}
 use Rattle.sbpl_promises.specs.Texts.{HasChangeFault, HasEnvironmentFault, HasGridFault, HasPrimitiveFault, IsChangeText, IsEnvironmentText, IsGridText, IsPrimitiveText, Scope, scope_for, still}
 use Rattle.sbpl_promises.specs.Writing.{AreAppended, DeskState, EndsAs, IsCutAt, IsOutput, IsOutputOf, RunsOutAt, Names, ReadFailed, Stays, StaysBut, Told, Write, WriteFailed}
 
@@ -64,32 +64,32 @@ pub record IsListed (before after : DeskState) (from : Sources) : Type 0 where
   pub is_world : IsWorld world
   pub lines : AreAppended before after (listing_writes world)
 
--- In a world of a site and over a course the text of a file of labels, which were searched on that site, is checked: sections with
+-- In a world of a site and over map updates the text of a file of labels, which were searched on that site, is checked: sections with
 -- these outcomes, of searches to these goals, hold, and it ends so.
-pub record IsCheckedIn {W : Type 0} (Holds : Holding) (on : Site W) (w : W) (course : Course) (text : List ℕ) (goals : ℕ → ℕ) (os : List Outcome) (end : Option SectionStop) : Type 0 where
+pub record IsCheckedIn {W : Type 0} (Holds : Holding) (on : Site W) (w : W) (updates : Updates) (text : List ℕ) (goals : ℕ → ℕ) (os : List Outcome) (end : Option SectionStop) : Type 0 where
   pub start : ℕ
   pub goal : ℕ
-  pub start_is : on.wording.starts w start
-  pub goal_is : on.wording.ends w goal
-  pub goals_are : goals ≡ to_in (case_of on w course start goal)
-  pub checked : AreChecked Holds (case_of on w course start goal) 0 (suc (length course.batches)) (start_at text 0) os end
+  pub start_is : on.reporting.starts w start
+  pub goal_is : on.reporting.ends w goal
+  pub goals_are : goals ≡ to_in (case_of on w updates start goal)
+  pub checked : AreChecked Holds (case_of on w updates start goal) 0 (suc (length updates.batches)) (start_at text 0) os end
 
 -- of each world, the graph whose paths are told has just the arcs that its files make
 abbrev pub HasItsArcs : {W : Type 0} → Site W → Type 0
-HasItsArcs {W} on = (w : W) → on.cells.is_made w → on.wording.arcs (on.wording.told w) w
+HasItsArcs {W} on = (w : W) → on.cells.is_made w → on.reporting.arcs (on.reporting.told w) w
 
--- The files stand for a world and a course, and in it the file of labels is checked so. What its sections that hold say is shown, and is
+-- The files stand for a world and map updates, and in it the file of labels is checked so. What its sections that hold say is shown, and is
 -- so, on graphs which have just the arcs that the files make on the map, read backwards where the robot may move.
 pub record IsChecked {W : Type 0} (held : Told) (f : WorldFiles W) (changes : Option (List ℕ)) (labels : List ℕ) (goals : ℕ → ℕ) (os : List Outcome) (end : Option SectionStop) : Type 0 where
   pub world : W
-  pub course : Course
+  pub updates : Updates
   pub says : f.stand_for held world
-  pub changes_say : ReadsCourse held changes (f.scope world) course
+  pub changes_say : ReadsUpdates held changes (f.scope world) updates
   pub arcs : HasItsArcs f.on
   pub is_world : f.on.cells.is_made world
   pub text : List ℕ
   pub read : IsReadText (held labels) text
-  pub in_world : IsCheckedIn IsShownHolding (searched_on f.on f.moves) world course text goals os end
+  pub in_world : IsCheckedIn IsShownHolding (searched_on f.on f.moves) world updates text goals os end
 
 -- sections of labels were checked, which ended so, and their lines were written
 pub record IsJudged {W : Type 0} (before after : DeskState) (end : Option SectionStop) (f : WorldFiles W) (changes : Option (List ℕ)) (labels : List ℕ) : Type 0 where
@@ -179,7 +179,7 @@ pub record EndsJob (before after : DeskState) (old new : List Entry) (j : Job) (
 
 -- how the making of plans, the first of which is plan k, ends by the program's status, and what was published before it and after;
 -- what is written of a plan is given
-pub record EndsPlans {W : Type 0} (by : Known W) (written_of : PlanRecord → List Write) (w : W) (batches : List (List change.Write)) (how : SearchJob) (outputs : Outputs) (starts : ℕ → ℕ) (goal k : ℕ) (log shown : List Entry) (left : Option Carried) (before after : DeskState) (status : ℕ) : Type 0 where
+pub record EndsPlans {W : Type 0} (by : PlannerOn W) (written_of : PlanRecord → List Write) (w : W) (batches : List (List change.Write)) (how : SearchJob) (outputs : Outputs) (starts : ℕ → ℕ) (goal k : ℕ) (log shown : List Entry) (left : Option Carried) (before after : DeskState) (status : ℕ) : Type 0 where
   pub records : List PlanRecord
   pub all : Bool
   pub broken : List Found
@@ -254,10 +254,10 @@ TellsScope held from moving s = (text : List ℕ) × (e : Environment) × (cells
 abbrev pub TellsChangeFault : Told → Option (List ℕ) → Scope → ChangeFault → Type 0
 TellsChangeFault held changes s f = (name : List ℕ) × (text : List ℕ) × (changes ≡ Some name) × Tells (held name) text × HasChangeFault s text f
 
--- the desk tells that the change file stands for a course; where there is none, there are no batches
-abbrev pub TellsCourse : Told → Option (List ℕ) → Scope → Course → Type 0
-TellsCourse held None s c = c ≡ still []
-TellsCourse held (Some name) s c = (text : List ℕ) × Tells (held name) text × IsChangeText s text c
+-- the desk tells that the change file stands for map updates; where there is none, there are no batches
+abbrev pub TellsUpdates : Told → Option (List ℕ) → Scope → Updates → Type 0
+TellsUpdates held None s c = c ≡ still []
+TellsUpdates held (Some name) s c = (text : List ℕ) × Tells (held name) text × IsChangeText s text c
 
 -- the desk tells that the files stand for this world
 pub record TellsWorld (held : Told) (from : Sources) (w : World) : Type 0 where

@@ -5,11 +5,11 @@ pub use Rattle.sbpl_report.specs.sbpl_incumbent.Entries.{newest}
 pub use Rattle.sbpl_report.specs.sbpl_incumbent.declared.entry.Entry.{Entry}
 use Rattle.sbpl_report.specs.sbpl_plan.declared.found.Found.{Found}
 use Rattle.sbpl_report.specs.sbpl_plan.declared.found.Found.TheVariants as found
-use Rattle.sbpl_report.specs.sbpl_plan.declared.passes.Pass.{Pass}
+use Rattle.sbpl_report.specs.sbpl_plan.declared.passes.PassRecord.{PassRecord}
 use Rattle.sbpl_report.specs.declared.record.PlanRecord.{PlanRecord}
 
 -- what passes found, in turn
-abbrev pub founds : {Note : Type 0} → List (Pass Note) → List Found
+abbrev pub founds : {Action : Type 0} → List (PassRecord Action) → List Found
 founds = map (λ p. p.found)
 
 -- what was published and then an entry for each path that passes of a plan found, in turn, the first of which has this number

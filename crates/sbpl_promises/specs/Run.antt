@@ -8,12 +8,12 @@ pub use Rattle.sbpl_promises.specs.Checked.{IsHolding}
 pub use Rattle.sbpl_promises.specs.Determined.{ArePrefixes, AreTold, CallsFor, IsDeterminedJob, IsNoFailure, NoneRose}
 pub use Rattle.sbpl_promises.specs.Intents.{Intent, checked_status, intent_status, refusal_writes, words_writes, writes_of}
 pub use Rattle.sbpl_report.specs.Refusals.{refusal_status}
-pub use Rattle.sbpl_promises.specs.Promises.{AreGood, ReadsFrom, AtJob, EndsJob, EndsRun, IsCutShort, IsCheckedIn, IsDone, IsFaultFound, IsFlawFound, IsNoCheck, IsOrFailed, IsOrUnwritten, IsRefused, IsStatus, EndsWithoutMemory, MayBeWritten, SomeRose, Tells, TellsChangeFault, TellsCourse, TellsEnvironment, TellsEnvironmentFault, TellsPrimitiveFault, TellsPrimitives, TellsTooMuch, TellsWorld, TellsGrid, TellsGridFault, IsOnGrid, changes_of, grid_of, sources_of}
+pub use Rattle.sbpl_promises.specs.Promises.{AreGood, ReadsFrom, AtJob, EndsJob, EndsRun, IsCutShort, IsCheckedIn, IsDone, IsFaultFound, IsFlawFound, IsNoCheck, IsOrFailed, IsOrUnwritten, IsRefused, IsStatus, EndsWithoutMemory, MayBeWritten, SomeRose, Tells, TellsChangeFault, TellsUpdates, TellsEnvironment, TellsEnvironmentFault, TellsPrimitiveFault, TellsPrimitives, TellsTooMuch, TellsWorld, TellsGrid, TellsGridFault, IsOnGrid, changes_of, grid_of, sources_of}
 pub use Rattle.sbpl_promises.specs.GridSite.{grid_site}
 pub use Rattle.sbpl_promises.specs.LatticeSite.{lattice_site}
 pub use Rattle.sbpl_nav2d.specs.World.{GridWorld}
 pub use Rattle.sbpl_report.specs.sbpl_job.declared.job.NavCheckJob.{NavCheckJob}
-pub use Rattle.sbpl_promises.specs.declared.course.Course.{Course}
+pub use Rattle.sbpl_promises.specs.declared.updates.Updates.{Updates}
 pub use Rattle.sbpl_promises.specs.Texts.{Scope}
 pub use Rattle.sbpl_promises.specs.declared.section_stop.SectionStop.{SectionStop}
 pub use Rattle.sbpl_report.specs.sbpl_cost.PrimitiveCost.{IsFirstTooDear}

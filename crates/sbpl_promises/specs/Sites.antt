@@ -5,7 +5,7 @@ use Rattle.sbpl_report.specs.sbpl_graph.Network.{Network}
 use Rattle.sbpl_report.specs.sbpl_cfg.declared.pose.Place.{Place}
 use Rattle.sbpl_report.specs.sbpl_terrain.Cells.{Cells}
 use Rattle.sbpl_report.specs.declared.record.PathStep.{PathStep}
-use Rattle.sbpl_report.specs.declared.record.Spot.{Spot}
+use Rattle.sbpl_report.specs.declared.record.ReportPose.{ReportPose}
 use Rattle.sbpl_replan.specs.sbpl_back.Reversed.{AreTurned, reversed}
 use Rattle.sbpl_replan.specs.sbpl_back.ReversedCells.{reads_turned}
 use Rattle.sbpl_replan.specs.sbpl_back.Starts.{IsGapFrom}
@@ -15,17 +15,17 @@ use Rattle.sbpl_replan.specs.sbpl_back.Starts.{IsGapFrom}
 -- back: whether that graph is searched the other way round, from the goal to the start, which may move
 -- arcs: a graph has just the arcs of a world, as its files say them
 -- starts, ends: the state from which the environment's plans go, and the one to which
--- spot: where a state is, as a path tells it
+-- report_pose: where a state is, as a path tells it
 -- step: arc k of state s, which leads to t, is this step of a path
 -- headings: how many headings a place may have that a change file gives, none where such a file gives none
 -- state: the state of such a place
-pub record Wording (W : Type 0) : Type 1 where
+pub record Reporting (W : Type 0) : Type 1 where
   pub told : W → Network
   pub back : Bool
   pub arcs : Network → W → Type 0
   pub starts : W → ℕ → Type 0
   pub ends : W → ℕ → Type 0
-  pub spot : W → ℕ → Spot
+  pub report_pose : W → ℕ → ReportPose
   pub step : W → (s k t : ℕ) → PathStep → Type 0
   pub headings : W → ℕ
   pub state : W → Place → ℕ
@@ -37,21 +37,21 @@ pub record Site (W : Type 0) : Type 1 where
   pub network : W → Network
   pub cells : Cells W
   pub says : W → (goal : ℕ) → (guide : ℕ → ℕ) → Type 0
-  pub wording : Wording W
+  pub reporting : Reporting W
 
 -- two worlds word places alike
-pub record WordPlacesAlike {W : Type 0} (words : Wording W) (w v : W) : Type 0 where
+pub record WordPlacesAlike {W : Type 0} (words : Reporting W) (w v : W) : Type 0 where
   pub headings : words.headings v ≡ words.headings w
   pub state : words.state v ≡ words.state w
 
 -- the start of plan k: the state of the place that the first k batches give last, and that of the file where they give none
-abbrev pub start_after : {W : Type 0} → Wording W → W → (start : ℕ) → (moves : Option (List (Option Place))) → (k : ℕ) → ℕ
+abbrev pub start_after : {W : Type 0} → Reporting W → W → (start : ℕ) → (moves : Option (List (Option Place))) → (k : ℕ) → ℕ
 start_after words w start None k = start
 start_after words w start (Some moves) k = unwrap_or (last_or None (filter_map (option_map (words.state w)) (take k moves))) start
 
 -- the site of these parts
-abbrev pub site_of : {W : Type 0} → (W → Network) → Cells W → (W → (goal : ℕ) → (guide : ℕ → ℕ) → Type 0) → Wording W → Site W
-site_of network cells says wording = record { network = network; cells = cells; says = says; wording = wording }
+abbrev pub site_of : {W : Type 0} → (W → Network) → Cells W → (W → (goal : ℕ) → (guide : ℕ → ℕ) → Type 0) → Reporting W → Site W
+site_of network cells says reporting = record { network = network; cells = cells; says = says; reporting = reporting }
 
 -- ---- a graph that is searched the other way round
 
@@ -87,8 +87,8 @@ says_by false network says w to guide = says w to guide
 -- the site where the graph whose paths are told is searched the other way round, or as it is
 abbrev pub searched_on : {W : Type 0} → Site W → (back : Bool) → Site W
 searched_on on back = record {
-  network = λ w. network_by back (on.wording.told w);
-  cells = record on.cells { reads = reads_by back on.wording.told on.cells };
-  says = says_by back on.wording.told on.says;
-  wording = record on.wording { back = back };
+  network = λ w. network_by back (on.reporting.told w);
+  cells = record on.cells { reads = reads_by back on.reporting.told on.cells };
+  says = says_by back on.reporting.told on.says;
+  reporting = record on.reporting { back = back };
 }

@@ -9,7 +9,7 @@ use Rattle.sbpl_report.specs.sbpl_map.ChangeText as changes
 use Rattle.sbpl_report.specs.sbpl_map.LineFaults as change_faults
 use Rattle.sbpl_report.specs.sbpl_map.declared.fault.ChangeFault.{ChangeFault}
 use Rattle.sbpl_report.specs.sbpl_map.declared.write.Write.{Write}
-use Rattle.sbpl_promises.specs.declared.course.Course.{Course}
+use Rattle.sbpl_promises.specs.declared.updates.Updates.{Updates}
 use Rattle.sbpl_report.specs.sbpl_mprim.declared.fault.PrimFault.{PrimFault}
 use Rattle.sbpl_report.specs.sbpl_mprim.Primitives.{Primitives}
 use Rattle.sbpl_report.specs.sbpl_mprim.Text as primitives
@@ -56,16 +56,16 @@ abbrev pub still_scope : CellMap → Scope
 still_scope m = record { map = m; headings = None }
 
 -- batches over which the robot stays where it is
-abbrev pub still : List (List Write) → Course
+abbrev pub still : List (List Write) → Updates
 still batches = record { batches = batches; moves = None }
 
--- the text of a change file stands for a course
-abbrev pub IsCourseText : CellMap → (headings : Option ℕ) → List ℕ → Course → Type 0
-IsCourseText m None text c = changes.IsTextOf m text c.batches × (c.moves ≡ None)
-IsCourseText m (Some headings) text c = (moves : List (Option Place)) × (c.moves ≡ Some moves) × changes.IsMovesTextOf m headings text c.batches moves
+-- the text of a change file stands for map updates
+abbrev pub IsTextOfUpdates : CellMap → (headings : Option ℕ) → List ℕ → Updates → Type 0
+IsTextOfUpdates m None text c = changes.IsTextOf m text c.batches × (c.moves ≡ None)
+IsTextOfUpdates m (Some headings) text c = (moves : List (Option Place)) × (c.moves ≡ Some moves) × changes.IsMovesTextOf m headings text c.batches moves
 
-abbrev pub IsChangeText : Scope → List ℕ → Course → Type 0
-IsChangeText s text c = IsCourseText s.map s.headings text c
+abbrev pub IsChangeText : Scope → List ℕ → Updates → Type 0
+IsChangeText s text c = IsTextOfUpdates s.map s.headings text c
 
 -- the first fault of the text of a change file
 abbrev pub HasChangeFault : Scope → List ℕ → ChangeFault → Type 0

@@ -1,13 +1,13 @@
 //! What the program promises of the status that it answers and of what it writes, as definitions.
 #![tactic(auto)]
 
-mod causes;
-mod course;
+mod laws;
 mod section_stop;
+mod updates;
 
-pub use causes::causes_stand;
-pub use course::Course;
+pub use laws::causes_stand;
 pub use section_stop::SectionStop;
+pub use updates::Updates;
 
 // Of `sbpl_graph`.
 pub use sbpl_report::{Graph, Guide};
@@ -90,7 +90,7 @@ pub use sbpl_report::{
 
 // Of `sbpl_plan`.
 pub use sbpl_report::{
-    Arcs, Ask, Found, FoundPath, Observer, Outcome, Pass, Planned, plan_is_determined,
+    Arcs, Ask, Found, FoundPath, Observer, Outcome, PassRecord, Planned, plan_is_determined,
 };
 
 // Of `sbpl_replan`.
@@ -105,7 +105,7 @@ pub use sbpl_report::{
 
 // Of `sbpl_report`.
 pub use sbpl_report::{
-    Input, PathRecord, PathStep, PlanRecord, Raised, Refusal, Spot, Steps, Stop, TraceLine, Traced,
-    demo_line, fault_line, flaw_line, holds_line, incumbent_line, labels_of, labels_text,
-    listing_at, plan_line, refusal_line, trace_of, traced_passes,
+    Input, JobStop, PathRecord, PathStep, PlanRecord, Raised, Refusal, ReportPose, Steps,
+    TraceLine, Traced, demo_line, fault_line, flaw_line, holds_line, incumbent_line, labels_of,
+    labels_text, listing_at, plan_line, refusal_line, trace_of, traced_passes,
 };

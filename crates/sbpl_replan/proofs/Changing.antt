@@ -11,7 +11,7 @@ use Rattle.sbpl_plan.specs.sbpl_search.Meaning.{Meaning}
 use Rattle.sbpl_plan.specs.sbpl_search.Ready.{AreUsable, IsStartFresh}
 use Rattle.sbpl_plan.specs.sbpl_search.State.{State}
 use Rattle.sbpl_heur.specs.sbpl_serial.Repaired.{ExactWhereSame}
-use Rattle.sbpl_plan.specs.declared.passes.Pass.{Pass}
+use Rattle.sbpl_plan.specs.declared.passes.PassRecord.{PassRecord}
 use Rattle.sbpl_plan.specs.OutOfMemory.{RunsOutOfMemory}
 use Rattle.sbpl_plan.specs.Passing.{Inquiry, expansions}
 use Rattle.sbpl_heur.specs.sbpl_terrain.Affected.{AreStates, KeepArcsElsewhere}
@@ -60,8 +60,8 @@ on_err_so (Ok x) P Q so h = tt
 on_err_so (Err e) P Q so h = so h
 
 -- what is left where memory ran out in a plan
-pub stands : {Note : Type 0} (means : Meaning Note) (q : Inquiry) (Ready : Type 0) (Told : List (Pass Note) → Type 0)
-    (old new : Standing Note) → AreCounts new.counts
+pub stands : {Action : Type 0} (means : Meaning Action) (q : Inquiry) (Ready : Type 0) (Told : List (PassRecord Action) → Type 0)
+    (old new : Standing Action) → AreCounts new.counts
     → (means.ready q.network new.search.labels new.counts.run → new.search.goal ≡ old.search.goal
     → IsStartFresh new.search.labels → Ready)
     → RunsOutOfMemory means q q.ask.first old.search new.search (at_plan old.counts) new.counts Told
@@ -82,8 +82,8 @@ stands means q Ready Told old new are again (inl part) = inl (record {
 stands means q Ready Told old new are again (inr cut) = inr cut
 
 -- another plan may begin where the search went on to the same goal on the same map
-pub ready_again : {Note H W : Type 0} (means : Meaning Note) (network : W → Network) (is_made_for : H → W → ℕ → Type 0)
-    (s : SessionState Note H W) (search : State Note) (counts : Counts)
+pub ready_again : {Action H W : Type 0} (means : Meaning Action) (network : W → Network) (is_made_for : H → W → ℕ → Type 0)
+    (s : SessionState Action H W) (search : State Action) (counts : Counts)
     → IsReady means network is_made_for s → means.ready (network s.world) search.labels counts.run
     → search.goal ≡ s.search.goal → IsStartFresh search.labels
     → IsReady means network is_made_for (record s { search = search; counts = counts })

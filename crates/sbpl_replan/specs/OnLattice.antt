@@ -6,5 +6,5 @@ use Rattle.sbpl_replan.specs.Replanning.{IsReady, SessionState}
 use Rattle.sbpl_plan.specs.sbpl_search.Meaning.{Meaning}
 
 -- a plan may begin
-abbrev pub IsReadyOn : {Note : Type 0} → Meaning Note → SessionState Note Table World → Type 0
+abbrev pub IsReadyOn : {Action : Type 0} → Meaning Action → SessionState Action Table World → Type 0
 IsReadyOn means s = IsReady means network_of (λ b v goal. IsBestGuide v goal b) s

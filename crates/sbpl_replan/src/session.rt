@@ -37,7 +37,7 @@ pub type LatticeSession<S> = Session<Lattice, Best, S>;
 impl<W: Terrain + Drop, H: Heuristic<W>, S: Search<W, H> + Drop> Model for Session<W, H, S> {
     ghost use Rattle.sbpl_replan.specs.Replanning.{SessionState};
 
-    ghost Value = { SessionState S.Note H W };
+    ghost Value = { SessionState S.Action H W };
 
     ghost view = { λ r. record { world = r.world; search = S.state r.search; guide = r.guide; counts = r.budget } };
 
@@ -115,7 +115,7 @@ impl<W: Terrain + Drop, H: Heuristic<W>, S: Search<W, H> + Drop> Session<W, H, S
         alloc: Global,
         ask: &Ask,
         observer: &mut O,
-    ) -> Result<Planned<S::Note>, NoMemory>
+    ) -> Result<Planned<S::Action>, NoMemory>
         requires ready { IsReady S.meaning W.network H.is_made_for self.old }
         requires asked { IsAsk ask.now }
         requires observed { MOST_PASSES ≤ O.room observer.old }

@@ -5,11 +5,11 @@ use Rattle.sbpl_cost.specs.sbpl_cfg.declared.pose.Place.{Place}
 use Rattle.sbpl_plan.specs.declared.found.Found.{Found}
 use Rattle.sbpl_plan.specs.declared.found.Found.TheVariants as found
 use Rattle.sbpl_report.specs.declared.record.TraceLine.{TraceLine}
-use Rattle.sbpl_plan.specs.declared.passes.Pass.{Pass}
+use Rattle.sbpl_plan.specs.declared.passes.PassRecord.{PassRecord}
 use Rattle.sbpl_report.specs.declared.record.PathStep.{PathStep}
 use Rattle.sbpl_report.specs.declared.record.PathRecord.{PathRecord}
-use Rattle.sbpl_report.specs.declared.record.Spot.{Spot}
-use Rattle.sbpl_report.specs.declared.record.Spot.TheVariants as spot
+use Rattle.sbpl_report.specs.declared.record.ReportPose.{ReportPose}
+use Rattle.sbpl_report.specs.declared.record.ReportPose.TheVariants as report_pose
 use Rattle.sbpl_plan.specs.declared.result.Outcome.{Outcome}
 use Rattle.sbpl_plan.specs.declared.result.Outcome.TheVariants as outcome
 use Rattle.sbpl_incumbent.specs.declared.entry.Entry.{Entry}
@@ -26,7 +26,7 @@ found_text found.None = codes " none"
 found_text found.Broken = codes " broken"
 
 -- the line of a pass
-unfoldable pub pass_text : Pass TraceLine → List ℕ
+unfoldable pub pass_text : PassRecord TraceLine → List ℕ
 pass_text p = codes "pass " ++ (milli_text p.inflation ++ (codes " expanded " ++ (decimal p.expanded ++ (found_text p.found ++ line_feed))))
 
 -- a place, and the end of its line
@@ -34,17 +34,17 @@ unfoldable pub place_text : Place → List ℕ
 place_text p = decimal p.x ++ (codes " " ++ (decimal p.y ++ (codes " " ++ (decimal p.t ++ line_feed))))
 
 -- where a state is, and the end of its line: a pose with its heading, or a cell
-abbrev pub spot_text : Spot → List ℕ
-spot_text (spot.Pose p) = place_text p
-spot_text (spot.Cell x y) = decimal x ++ (codes " " ++ (decimal y ++ line_feed))
+abbrev pub report_pose_text : ReportPose → List ℕ
+report_pose_text (report_pose.Pose p) = place_text p
+report_pose_text (report_pose.Cell x y) = decimal x ++ (codes " " ++ (decimal y ++ line_feed))
 
 -- the line of a step
 unfoldable pub step_text : PathStep → List ℕ
-step_text s = codes "step " ++ (decimal s.id ++ (codes " " ++ spot_text s.spot))
+step_text s = codes "step " ++ (decimal s.id ++ (codes " " ++ report_pose_text s.report_pose))
 
 -- the lines of a path
 unfoldable pub path_text : PathRecord → List ℕ
-path_text p = codes "path " ++ (decimal (length p.steps) ++ (codes " cost " ++ (decimal p.cost ++ (codes " bound " ++ (milli_text p.bound ++ (line_feed ++ (codes "pose " ++ (spot_text p.start ++ flat_map step_text p.steps))))))))
+path_text p = codes "path " ++ (decimal (length p.steps) ++ (codes " cost " ++ (decimal p.cost ++ (codes " bound " ++ (milli_text p.bound ++ (line_feed ++ (codes "pose " ++ (report_pose_text p.start ++ flat_map step_text p.steps))))))))
 
 -- the lines of a result
 abbrev pub outcome_text : Outcome PathRecord → List ℕ

@@ -2,7 +2,7 @@
 use Rattle.std.specs.Prelude.{ℕ, if◌then◌else◌, Option, Some, None, List, ◌++◌, flat_map, map, codes, decimal}
 use Rattle.sbpl_job.specs.sbpl_fixed.Printed.{milli_text}
 use Rattle.sbpl_frontier_rules.specs.sbpl_serial.declared.step.Step.{Step}
-use Rattle.sbpl_plan.specs.declared.passes.Pass.{Pass}
+use Rattle.sbpl_plan.specs.declared.passes.PassRecord.{PassRecord}
 use Rattle.sbpl_report.specs.declared.record.PlanRecord.{PlanRecord}
 use Rattle.sbpl_report.specs.declared.record.TraceLine.{TraceLine}
 use Rattle.sbpl_report.specs.declared.record.TraceLine.TheVariants.{Lower, Raise, Open, Take, Post}
@@ -21,7 +21,7 @@ line_of_event (event.Taken ticket seat s k) = Take ticket seat s k
 line_of_event (event.Posted ticket cost) = Post ticket cost
 
 -- a pass, with what it did as lines
-abbrev pub traced_pass : {Note : Type 0} → (Note → TraceLine) → Pass Note → Pass TraceLine
+abbrev pub traced_pass : {Action : Type 0} → (Action → TraceLine) → PassRecord Action → PassRecord TraceLine
 traced_pass line p = record { inflation = p.inflation; expanded = p.expanded; found = p.found; trace = map line p.trace }
 
 -- the cost of an arc, or a dash where it is not free
@@ -43,7 +43,7 @@ abbrev pub raise_text : ℕ → List ℕ
 raise_text s = line_text (Raise s)
 
 -- the lines of a pass
-unfoldable pub lines_text : Pass TraceLine → List ℕ
+unfoldable pub lines_text : PassRecord TraceLine → List ℕ
 lines_text p = codes "pass " ++ (milli_text p.inflation ++ (line_feed ++ flat_map line_text p.trace))
 
 -- the section of a plan in a trace

@@ -15,8 +15,8 @@ mod trace;
 pub use check_lines::{flaw_line, holds_line};
 pub use labels::{labels_of, labels_text};
 pub use parts::Steps;
-pub use record::{PathRecord, PathStep, PlanRecord, Raised, Spot, TraceLine};
-pub use refusal::{Input, Refusal, Stop};
+pub use record::{PathRecord, PathStep, PlanRecord, Raised, ReportPose, TraceLine};
+pub use refusal::{Input, JobStop, Refusal};
 pub use refusal_lines::{fault_line, refusal_line};
 pub use report::{demo_line, incumbent_line, plan_line};
 pub use sweep_lines::listing_at;
@@ -78,7 +78,7 @@ pub use sbpl_cert::{
 
 // Of `sbpl_plan`.
 pub use sbpl_plan::{
-    Arcs, Ask, Found, FoundPath, Observer, Outcome, Pass, Planned, plan_is_determined,
+    Arcs, Ask, Found, FoundPath, Observer, Outcome, PassRecord, Planned, plan_is_determined,
 };
 
 // Of `sbpl_job`.

@@ -8,7 +8,7 @@ use sbpl_plan::{Arcs, ListOf, Outcome, Passes};
 
 /// Where a state is, as a report tells it.
 #[derive(Clone, Copy)]
-pub enum Spot {
+pub enum ReportPose {
     /// A cell and a heading.
     Pose(Place),
     /// A cell: its column and its row.
@@ -20,7 +20,7 @@ pub enum Spot {
 pub struct PathStep {
     /// On a lattice the primitive's id.
     pub id: u32,
-    pub spot: Spot,
+    pub report_pose: ReportPose,
 }
 
 /// A line of a trace: one thing that a planner noted.
@@ -30,7 +30,7 @@ pub enum TraceLine {
     Lower(u32),
     /// An underconsistent state was raised.
     Raise(u32),
-    /// A state was expanded, and its arcs became ready to be evaluated.
+    /// A state was expanded, and its arcs became ready to be judged.
     Open(u32),
     /// The worker at a seat took arc `arc` of `state`, under a ticket.
     Take {
@@ -39,7 +39,7 @@ pub enum TraceLine {
         state: u32,
         arc: u32,
     },
-    /// The arc of a ticket was evaluated: its cost, or `None` where it is not free.
+    /// The arc of a ticket was judged: its cost, or `None` where it is not free.
     Post {
         ticket: u64,
         cost: Option<u32>,
@@ -54,7 +54,7 @@ pub struct PathRecord {
     /// Its bound, in thousandths.
     pub bound: u128,
     /// Where it starts.
-    pub start: Spot,
+    pub start: ReportPose,
     /// Its steps, from the start.
     pub steps: Steps,
     /// Its arc numbers, from the start.

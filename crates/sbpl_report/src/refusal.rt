@@ -2,7 +2,7 @@
 
 ghost use Rattle.std.specs.Prelude.{◌≡◌};
 ghost use Rattle.sbpl_report.specs.Refusals.{refusal_status};
-ghost use Rattle.sbpl_report.specs.declared.refusal.Stop.TheVariants.{NoMemory as Memory};
+ghost use Rattle.sbpl_report.specs.declared.refusal.JobStop.TheVariants.{NoMemory as Memory};
 
 use sbpl_cost::{ChangeFault, EnvFault, Message, PrimFault};
 use sbpl_job::NoMemory;
@@ -53,17 +53,17 @@ impl Refusal {
 }
 
 /// Why a job stopped before anything was written.
-pub enum Stop {
+pub enum JobStop {
     /// The job is refused, and people are told this.
     Refused(Refusal, Message),
     /// Memory ran out.
     NoMemory,
 }
 
-impl From<NoMemory> for Stop {
+impl From<NoMemory> for JobStop {
     ghost from_gives = { λ _ s. s ≡ Memory };
 
-    fn from(_error: NoMemory) -> Stop {
-        Stop::NoMemory
+    fn from(_error: NoMemory) -> JobStop {
+        JobStop::NoMemory
     }
 }

@@ -10,10 +10,10 @@ use crate::record::{PlanRecord, TraceLine};
 use sbpl_frontier_rules::{Event, Step};
 use sbpl_job::NoMemory;
 use sbpl_plan::Piece::{Bytes, Milli, Number};
-use sbpl_plan::{Pass, Passes, Trace, push_all, push_bytes, push_field};
+use sbpl_plan::{PassRecord, Passes, Trace, push_all, push_bytes, push_field};
 use std::alloc::Global;
 
-/// What a planner notes, as a line of a trace.
+/// What a pass did, as a line of a trace.
 pub trait Traced {
     /// The line of a note.
     ghost line: { Self → TraceLine };
@@ -58,22 +58,25 @@ impl Traced for Event {
 }
 
 /// The lines of what a pass did.
-fn lines_of<N: Traced>(alloc: Global, notes: &[N]) -> Result<Trace<TraceLine>, NoMemory>
-    ensures lines { IfOk result (λ lines. lines ≡ map N.line notes.now) }
+fn lines_of<N: Traced>(alloc: Global, actions: &[N]) -> Result<Trace<TraceLine>, NoMemory>
+    ensures lines { IfOk result (λ lines. lines ≡ map N.line actions.now) }
 {
     let mut lines = Vec::new(alloc);
-    for note in notes {
+    for note in actions {
         lines.push(note.line())?;
     }
     Ok(Trace::of(lines))
 }
 
 /// A pass, with what it did as lines.
-fn traced_pass<N: Traced>(alloc: Global, pass: &Pass<N>) -> Result<Pass<TraceLine>, NoMemory>
+fn traced_pass<N: Traced>(
+    alloc: Global,
+    pass: &PassRecord<N>,
+) -> Result<PassRecord<TraceLine>, NoMemory>
     ensures traced { IfOk result (λ traced. traced ≡ traced_pass N.line pass.now) }
 {
     let trace = lines_of(alloc, pass.trace.as_slice())?;
-    Ok(Pass {
+    Ok(PassRecord {
         inflation: pass.inflation,
         expanded: pass.expanded,
         found: pass.found,
@@ -84,7 +87,7 @@ fn traced_pass<N: Traced>(alloc: Global, pass: &Pass<N>) -> Result<Pass<TraceLin
 /// The passes of a plan, with what they did as lines.
 pub fn traced_passes<N: Traced>(
     alloc: Global,
-    passes: &[Pass<N>],
+    passes: &[PassRecord<N>],
 ) -> Result<Passes<TraceLine>, NoMemory>
     ensures traced { IfOk result (λ traced. traced ≡ map (traced_pass N.line) passes.now) }
 {
@@ -121,7 +124,7 @@ fn push_take(
     )
 }
 
-/// Appends the evaluation of the arc of a ticket.
+/// Appends the judgement of the arc of a ticket.
 #[tactic(auto, unfolding(crate::specs::Traces::line_text))]
 fn push_post(out: &mut Vec<u8>, ticket: u64, cost: Option<u32>) -> Result<(), NoMemory>
     ensures appended { OnOk result (out.new.items ++ line_feed ≡ out.old.items ++ line_text (Lines.Post ticket cost)) }
@@ -175,7 +178,7 @@ fn push_raised(out: &mut Vec<u8>, states: &[u32]) -> Result<(), NoMemory>
 
 /// Appends the lines of a pass.
 #[tactic(auto, unfolding(crate::specs::Traces::lines_text))]
-fn push_pass(out: &mut Vec<u8>, pass: &Pass<TraceLine>) -> Result<(), NoMemory>
+fn push_pass(out: &mut Vec<u8>, pass: &PassRecord<TraceLine>) -> Result<(), NoMemory>
     ensures appended { OnOk result (out.new.items ≡ out.old.items ++ lines_text pass.now) }
 {
     push_all(
@@ -190,7 +193,7 @@ fn push_pass(out: &mut Vec<u8>, pass: &Pass<TraceLine>) -> Result<(), NoMemory>
 }
 
 /// Appends the lines of passes.
-fn push_passes(out: &mut Vec<u8>, passes: &[Pass<TraceLine>]) -> Result<(), NoMemory>
+fn push_passes(out: &mut Vec<u8>, passes: &[PassRecord<TraceLine>]) -> Result<(), NoMemory>
     ensures appended { OnOk result (out.new.items ≡ out.old.items ++ flat_map lines_text passes.now) }
 {
     for pass in passes {

@@ -13,19 +13,19 @@ AreAlikeGuides states h h' = (s : ℕ) → s < states → h s ≡ h' s
 -- Two passes of a query from the same labels that expand the same number of states did the same and end with the same
 -- labels; none expands more than one that rests; after no pass there is both rest and something left to expand. A pass keeps
 -- the start, the number of states, and that the start has no back arc. The guide matters at states alone.
-pub record DeterminesPasses {Note : Type 0} (leads : Query → List Note → Marks → Marks → Type 0) (rests goes_on : Query → List Note → Marks → Type 0) (expansions : List Note → ℕ) : Type 0 where
-  pub one : (q : Query) (old a b : Marks) (xs ys : List Note) → leads q xs old a → leads q ys old b → expansions xs ≡ expansions ys → (xs ≡ ys) × (a ≡ b)
-  pub longest : (q : Query) (old a b : Marks) (xs ys : List Note) → leads q xs old a → leads q ys old b → rests q xs a → expansions ys ≤ expansions xs
-  pub not_both : (q : Query) (notes : List Note) (m : Marks) → rests q notes m → goes_on q notes m → ⊥
-  pub start : (q : Query) (old new : Marks) (notes : List Note) → leads q notes old new → new.start ≡ old.start
-  pub states : (q : Query) (old new : Marks) (notes : List Note) → leads q notes old new → states_of new ≡ states_of old
-  pub no_arc : (q : Query) (old new : Marks) (notes : List Note) → leads q notes old new → back_of old old.start ≡ None → back_of new new.start ≡ None
-  pub guided : (q : Query) (h : ℕ → ℕ) (old new : Marks) (notes : List Note) → AreAlikeGuides (states_of old) q.guide h → leads q notes old new → leads (record q { guide = h }) notes old new
-  pub guided_rests : (q : Query) (h : ℕ → ℕ) (m : Marks) (notes : List Note) → AreAlikeGuides (states_of m) q.guide h → rests q notes m → rests (record q { guide = h }) notes m
-  pub guided_goes_on : (q : Query) (h : ℕ → ℕ) (m : Marks) (notes : List Note) → AreAlikeGuides (states_of m) q.guide h → goes_on q notes m → goes_on (record q { guide = h }) notes m
+pub record DeterminesPasses {Action : Type 0} (leads : Query → List Action → Marks → Marks → Type 0) (rests goes_on : Query → List Action → Marks → Type 0) (expansions : List Action → ℕ) : Type 0 where
+  pub one : (q : Query) (old a b : Marks) (xs ys : List Action) → leads q xs old a → leads q ys old b → expansions xs ≡ expansions ys → (xs ≡ ys) × (a ≡ b)
+  pub longest : (q : Query) (old a b : Marks) (xs ys : List Action) → leads q xs old a → leads q ys old b → rests q xs a → expansions ys ≤ expansions xs
+  pub not_both : (q : Query) (actions : List Action) (m : Marks) → rests q actions m → goes_on q actions m → ⊥
+  pub start : (q : Query) (old new : Marks) (actions : List Action) → leads q actions old new → new.start ≡ old.start
+  pub states : (q : Query) (old new : Marks) (actions : List Action) → leads q actions old new → states_of new ≡ states_of old
+  pub no_arc : (q : Query) (old new : Marks) (actions : List Action) → leads q actions old new → back_of old old.start ≡ None → back_of new new.start ≡ None
+  pub guided : (q : Query) (h : ℕ → ℕ) (old new : Marks) (actions : List Action) → AreAlikeGuides (states_of old) q.guide h → leads q actions old new → leads (record q { guide = h }) actions old new
+  pub guided_rests : (q : Query) (h : ℕ → ℕ) (m : Marks) (actions : List Action) → AreAlikeGuides (states_of m) q.guide h → rests q actions m → rests (record q { guide = h }) actions m
+  pub guided_goes_on : (q : Query) (h : ℕ → ℕ) (m : Marks) (actions : List Action) → AreAlikeGuides (states_of m) q.guide h → goes_on q actions m → goes_on (record q { guide = h }) actions m
 
 -- so the passes of a planner are determined
-abbrev pub AreDetermined : {Note : Type 0} → Meaning Note → Type 0
+abbrev pub AreDetermined : {Action : Type 0} → Meaning Action → Type 0
 AreDetermined means = DeterminesPasses means.leads means.rests means.goes_on means.expansions
 
 -- The labels from which the next plan begins, and the states that are raised for it, are determined by the labels that the plan
@@ -37,5 +37,5 @@ pub record DeterminesBeginnings (repairs : Bool) (begun : Network → List ℕ �
   pub no_arc : (n : Network) (touched : List ℕ) (old new : Marks) (raised : List ℕ) → back_of old old.start ≡ None → begun n touched old new raised → back_of new new.start ≡ None
 
 -- so a planner's beginnings are determined
-abbrev pub AreBeginningsDetermined : {Note : Type 0} → Meaning Note → Type 0
+abbrev pub AreBeginningsDetermined : {Action : Type 0} → Meaning Action → Type 0
 AreBeginningsDetermined means = DeterminesBeginnings means.repairs means.begun

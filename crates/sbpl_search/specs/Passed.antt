@@ -18,15 +18,15 @@ use Rattle.sbpl_search.specs.State.{State}
 -- inflation one the labels then show that there is no path where the goal's is infinite, and that each path costs at least g of
 -- the goal. The labels may begin another pass, and support a bound. The list of the states that were raised for the plan stays as
 -- it is.
-pub record IsPassed {Note : Type 0} (means : Meaning Note) (q : Query) (old new : State Note) (before after : Counts) (end : PassEnd) : Type 0 where
-  pub leads : means.leads q new.notes old.labels new.labels
-  pub rests : end ≡ Rest → means.rests q new.notes new.labels
-  pub goes_on : end ≡ Spent → means.goes_on q new.notes new.labels
+pub record IsPassed {Action : Type 0} (means : Meaning Action) (q : Query) (old new : State Action) (before after : Counts) (end : PassEnd) : Type 0 where
+  pub leads : means.leads q new.actions old.labels new.labels
+  pub rests : end ≡ Rest → means.rests q new.actions new.labels
+  pub goes_on : end ≡ Spent → means.goes_on q new.actions new.labels
   pub is_spent : end ≡ Spent → IsSpent after
-  pub counted : after ≡ record before { plan = before.plan + means.expansions new.notes; run = before.run + means.expansions new.notes }
-  pub each : (s : ℕ) → means.times s new.notes ≤ means.most
-  pub few : means.expansions new.notes ≤ means.most * states_of old.labels
-  pub unfinished : end ≡ Spent → means.expansions new.notes < means.most * states_of old.labels
+  pub counted : after ≡ record before { plan = before.plan + means.expansions new.actions; run = before.run + means.expansions new.actions }
+  pub each : (s : ℕ) → means.times s new.actions ≤ means.most
+  pub few : means.expansions new.actions ≤ means.most * states_of old.labels
+  pub unfinished : end ≡ Spent → means.expansions new.actions < means.most * states_of old.labels
   pub unbroken : end ≡ Rest → (i u : ℕ) → chain_at (back_of new.labels) old.goal i ≡ Some u → g_of new.labels u ≤ v_of new.labels u
   pub none : end ≡ Rest → q.eps ≡ 1000 → g_of new.labels old.goal ≡ FAR → ShowNone q.network new.labels.start old.goal (g_of new.labels) (v_of new.labels)
   pub tight : end ≡ Rest → q.eps ≡ 1000 → ShowBound q.network new.labels.start old.goal (g_of new.labels) (v_of new.labels) q.guide (g_of new.labels old.goal)

@@ -4,9 +4,9 @@ use Rattle.sbpl_labels.specs.Marks.{Marks}
 
 -- the labels, the goal, what the last pass did, in order, and whether it was kept, so that it can be read; and the states that were
 -- raised, in order, when the labels were last made ready for a plan on a graph that had changed
-pub record State (Note : Type 0) : Type 0 where
+pub record State (Action : Type 0) : Type 0 where
   pub labels : Marks
   pub goal : ℕ
-  pub notes : List Note
+  pub actions : List Action
   pub kept : Bool
   pub raised : List ℕ

@@ -20,13 +20,13 @@ use std::alloc::Global;
 /// its value. It may ask more of the graph and the guide than the trait does, such as that threads can share them.
 pub trait Search<G: Graph, H: Guide> {
     /// What a pass records of each thing that it does.
-    type Note: Copy;
+    type Action: Copy;
 
     /// What the planner's calls mean.
-    ghost meaning: { Meaning Self.Note };
+    ghost meaning: { Meaning Self.Action };
 
     /// The labels, the goal, what the last pass did, and the states that were raised for the present plan.
-    ghost state: { Self → State Self.Note };
+    ghost state: { Self → State Self.Action };
 
     /// What a pass asks of the planner's value, such as that it can call what it was given.
     ghost serves: { Self → Type 0 } = { λ _. ⊤ };
@@ -102,9 +102,9 @@ pub trait Search<G: Graph, H: Guide> {
             (g_of (state self.now).labels) (v_of (state self.now).labels) (H.distance guide.now) result };
 
     /// What the last pass did, in order, where it was kept.
-    fn notes(&self) -> &[Self::Note]
+    fn actions(&self) -> &[Self::Action]
         requires kept { (state self.now).kept ≡ true }
-        ensures value { result.now ≡ (state self.now).notes };
+        ensures value { result.now ≡ (state self.now).actions };
 
     /// The states that were raised when the labels were last made ready for a plan, in order: none where a planner raises states in
     /// its passes alone, and none before the first change.
@@ -113,7 +113,7 @@ pub trait Search<G: Graph, H: Guide> {
 
     /// How many states the last pass expanded.
     fn expanded(&self) -> u64
-        ensures value { result ≡ meaning.expansions (state self.now).notes };
+        ensures value { result ≡ meaning.expansions (state self.now).actions };
 
     ghost usable: { (n : Network) (m : Marks) (count : ℕ) → meaning.ready n m count → AreUsable n m count };
 }

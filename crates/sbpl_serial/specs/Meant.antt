@@ -72,4 +72,4 @@ serial repairs = record {
 
 -- the labels, the goal and the trace, which is always kept
 abbrev pub seen : SerialState → State Step
-seen a = record { labels = a.labels; goal = a.goal; notes = a.trace; kept = true; raised = [] }
+seen a = record { labels = a.labels; goal = a.goal; actions = a.trace; kept = true; raised = [] }

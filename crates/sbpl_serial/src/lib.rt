@@ -3,7 +3,7 @@
 
 mod closed;
 mod expansion;
-mod facts;
+mod laws;
 mod low;
 mod note;
 mod parts;
@@ -17,7 +17,7 @@ mod step;
 mod steps;
 
 pub use closed::Closed;
-pub use facts::{exact_where_same, raising_goes_arc_by_arc, run_is_determined};
+pub use laws::{exact_where_same, raising_goes_arc_by_arc, run_is_determined};
 pub use low::{low_of_queue, low_with};
 pub use parts::Parts;
 pub use policy::{Anew, Policy, Repair};

@@ -7,7 +7,7 @@ use sbpl_search::{Budget, Determined, Graph, Guide, Labels, NoMemory, PassEnd, S
 use std::alloc::Global;
 
 impl<G: Graph, H: Guide, P: Policy> Search<G, H> for Serial<P> {
-    type Note = Step;
+    type Action = Step;
 
     ghost meaning = { serial P.REPAIRS };
 
@@ -51,7 +51,7 @@ impl<G: Graph, H: Guide, P: Policy> Search<G, H> for Serial<P> {
         Serial::low(self, guide)
     }
 
-    fn notes(&self) -> &[Step] {
+    fn actions(&self) -> &[Step] {
         Serial::trace(self)
     }
 

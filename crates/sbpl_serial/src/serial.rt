@@ -211,7 +211,8 @@ impl<P: Policy> Serial<P> {
         requires changeable { AreRenewable P.REPAIRS (G.network graph.now) touched.now self.old.labels }
         ensures renewed { AreRenewed P.REPAIRS (G.network graph.now) touched.now self.old.labels self.new.labels }
         ensures ready { (n : Network) (count : ℕ) → n.states ≡ (G.network graph.now).states
-            → MayBeginPass P.REPAIRS n self.old.labels count → MayBeginPass P.REPAIRS (G.network graph.now) self.new.labels count }
+            → MayBeginPass P.REPAIRS n self.old.labels count
+            → MayBeginPass P.REPAIRS (G.network graph.now) self.new.labels count }
         ensures fits { (count : ℕ)
             → FitCount (states_of self.old.labels) (g_of self.old.labels) (v_of self.old.labels) count
             → FitCount (states_of self.old.labels) (g_of self.new.labels) (v_of self.new.labels) count }

@@ -12,8 +12,8 @@ use Rattle.sbpl_sweep.specs.Centres.{IsBefore}
 use Rattle.sbpl_sweep.specs.Widths.{most_cells}
 use Rattle.sbpl_sweep.specs.Gathered.{IsListed, AreInOrder, AreCovered, GoesOn, IsNext, AddsBand, AreSortedBands}
 use Rattle.sbpl_sweep.specs.Gathered.{CoverTooMany, CoverTheSame, IsStopOf}
-use Rattle.sbpl_sweep.specs.declared.stop.Stop.{Stop}
-use Rattle.sbpl_sweep.specs.declared.stop.Stop.TheVariants.{TooMany, NoMemory}
+use Rattle.sbpl_sweep.specs.declared.stop.SweepStop.{SweepStop}
+use Rattle.sbpl_sweep.specs.declared.stop.SweepStop.TheVariants.{TooMany, NoMemory}
 use Rattle.sbpl_sweep.proofs.Distances.{below_or_not, below_or_equal}
 use Rattle.sbpl_sweep.proofs.Lists.{before_push, at_push, from_push, made_at, made_from, there_is}
 
@@ -294,10 +294,10 @@ none_listed bands = record {
   few = omega arith;
 }
 
-abbrev pub stopped : Stop → Result (Unit {0}) Stop
+abbrev pub stopped : SweepStop → Result (Unit {0}) SweepStop
 stopped e = Err e
 
-pub stop_of : (bands : List Band) (e : Stop) → (stopped e ≡ stopped TooMany → CoverTooMany bands) → IsStopOf bands e
+pub stop_of : (bands : List Band) (e : SweepStop) → (stopped e ≡ stopped TooMany → CoverTooMany bands) → IsStopOf bands e
 stop_of bands TooMany more = more refl
 stop_of bands NoMemory more = tt
 
@@ -310,7 +310,7 @@ same_listed old new cells same listed = record {
   few = listed.few;
 }
 
-pub same_stop : (old new : List Band) (e : Stop) → CoverTheSame old new → IsStopOf new e → IsStopOf old e
+pub same_stop : (old new : List Band) (e : SweepStop) → CoverTheSame old new → IsStopOf new e → IsStopOf old e
 same_stop old new TooMany same (cells, some, more) =
     (cells, record { each = λ x y l. same.each x y (some.each x y l); ordered = some.ordered }, more)
 same_stop old new NoMemory same stop = tt

@@ -9,8 +9,8 @@ use Rattle.sbpl_mprim.specs.sbpl_cfg.declared.pose.Pose.{Pose}
 use Rattle.sbpl_sweep.specs.declared.band.Band.{Band}
 use Rattle.sbpl_sweep.specs.declared.cell.Cell.{Cell}
 use Rattle.sbpl_sweep.specs.declared.disc.Disc.{Disc}
-use Rattle.sbpl_sweep.specs.declared.stop.Stop.{Stop}
-use Rattle.sbpl_sweep.specs.declared.stop.Stop.TheVariants.{TooMany, NoMemory}
+use Rattle.sbpl_sweep.specs.declared.stop.SweepStop.{SweepStop}
+use Rattle.sbpl_sweep.specs.declared.stop.SweepStop.TheVariants.{TooMany, NoMemory}
 use Rattle.sbpl_sweep.specs.Sweep.{IsSwept, distance_to_cell}
 use Rattle.sbpl_sweep.specs.Bands.{IsCovered, IsOwn, IsNear, IsDisc, AddsDisc, HasWideRow}
 use Rattle.sbpl_sweep.specs.Discs.{IsInBounds}
@@ -136,7 +136,7 @@ too_many_swept cell radius poses k bands before (cells, some, more) = (
   more,
 )
 
-pub stop_swept : (cell : ℤ) (radius : ℕ) (poses : List Pose) (k : ℕ) (bands : List Band) (e : Stop)
+pub stop_swept : (cell : ℤ) (radius : ℕ) (poses : List Pose) (k : ℕ) (bands : List Band) (e : SweepStop)
     → AreSweptBefore cell radius poses k bands → IsStopOf bands e → IsSweepStop cell radius poses e
 stop_swept cell radius poses k bands TooMany before stop = too_many_swept cell radius poses k bands before stop
 stop_swept cell radius poses k bands NoMemory before stop = tt
@@ -186,10 +186,10 @@ wide_swept cell radius poses k p at wide = (
   omega (arith, length-row_cells wide.row wide.first 65537),
 )
 
-abbrev pub stopped : Stop → Result (Unit {0}) Stop
+abbrev pub stopped : SweepStop → Result (Unit {0}) SweepStop
 stopped e = Err e
 
-pub stop_wide : (cell : ℤ) (radius : ℕ) (poses : List Pose) (k : ℕ) (p : Pose) (e : Stop) → slice_get poses k ≡ Some p
+pub stop_wide : (cell : ℤ) (radius : ℕ) (poses : List Pose) (k : ℕ) (p : Pose) (e : SweepStop) → slice_get poses k ≡ Some p
     → (stopped e ≡ stopped TooMany → HasWideRow cell radius p) → IsSweepStop cell radius poses e
 stop_wide cell radius poses k p TooMany at wide = wide_swept cell radius poses k p at (wide refl)
 stop_wide cell radius poses k p NoMemory at wide = tt

@@ -2,8 +2,8 @@
 use Rattle.std.specs.Prelude.{◌≡◌, ℕ, ℤ, pos, ◌+◌, ◌<◌, ◌≤◌, ◌+ℤ◌, ◌≤ℤ◌, ◌<ℤ◌, ◌⊎◌, List, length, slice_get, Some}
 use Rattle.sbpl_sweep.specs.declared.band.Band.{Band}
 use Rattle.sbpl_sweep.specs.declared.cell.Cell.{Cell}
-use Rattle.sbpl_sweep.specs.declared.stop.Stop.{Stop}
-use Rattle.sbpl_sweep.specs.declared.stop.Stop.TheVariants.{TooMany, NoMemory}
+use Rattle.sbpl_sweep.specs.declared.stop.SweepStop.{SweepStop}
+use Rattle.sbpl_sweep.specs.declared.stop.SweepStop.TheVariants.{TooMany, NoMemory}
 use Rattle.sbpl_sweep.specs.Bands.{IsIn, IsCovered}
 use Rattle.sbpl_sweep.specs.Centres.{IsBefore}
 use Rattle.sbpl_sweep.specs.Widths.{most_cells}
@@ -33,7 +33,7 @@ abbrev pub CoverTooMany : List Band → Type 0
 CoverTooMany bands = (cells : List Cell) × AreSomeCovered bands cells × (most_cells < length cells)
 
 -- why the cells of bands are not listed
-abbrev pub IsStopOf : List Band → Stop → Type 0
+abbrev pub IsStopOf : List Band → SweepStop → Type 0
 IsStopOf bands TooMany = CoverTooMany bands
 IsStopOf bands NoMemory = Unit {0}
 

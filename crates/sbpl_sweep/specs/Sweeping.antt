@@ -4,9 +4,9 @@ use Rattle.sbpl_mprim.specs.sbpl_cfg.declared.pose.Pose.{Pose}
 use Rattle.sbpl_mprim.specs.declared.prim.Primitive.{Primitive}
 use Rattle.sbpl_mprim.specs.Primitives.{Primitives}
 use Rattle.sbpl_sweep.specs.declared.cell.Cell.{Cell}
-use Rattle.sbpl_sweep.specs.declared.stop.Stop.{Stop}
-use Rattle.sbpl_sweep.specs.declared.stop.Stop.TheVariants.{TooMany}
-use Rattle.sbpl_sweep.specs.declared.stop.Stop.TheVariants.{NoMemory as StopNoMemory}
+use Rattle.sbpl_sweep.specs.declared.stop.SweepStop.{SweepStop}
+use Rattle.sbpl_sweep.specs.declared.stop.SweepStop.TheVariants.{TooMany}
+use Rattle.sbpl_sweep.specs.declared.stop.SweepStop.TheVariants.{NoMemory as StopNoMemory}
 use Rattle.sbpl_sweep.specs.declared.fault.SweepFault.{SweepFault}
 use Rattle.sbpl_sweep.specs.declared.fault.SweepFault.TheVariants.{TooWide, NoMemory}
 use Rattle.sbpl_sweep.specs.Centres.{AreSwept}
@@ -18,7 +18,7 @@ pub record AreFewSwept (cell : ℤ) (radius : ℕ) (poses : List Pose) (cells : 
   pub few : length cells ≤ most_cells
 
 -- why the cells that a motion sweeps are not listed
-abbrev pub IsSweepStop : ℤ → ℕ → List Pose → Stop → Type 0
+abbrev pub IsSweepStop : ℤ → ℕ → List Pose → SweepStop → Type 0
 IsSweepStop cell radius poses TooMany = SweepsMoreThan cell radius poses most_cells
 IsSweepStop cell radius poses StopNoMemory = Unit {0}
 

@@ -1,6 +1,7 @@
 //! The cells of bands in one list.
 
-ghost use Rattle.std.specs.Prelude.{◌≡◌, ◌↔◌, ℤ, pos, ◌<◌, ◌≤◌, ◌≤ℤ◌, [], ◌∷◌, ◌++◌, length, IfOk, OnOk, IfErr, IsErrOf, IsTrue};
+ghost use Rattle.std.specs.Prelude.{◌≡◌, ◌↔◌, ℤ, pos, ◌<◌, ◌≤◌, ◌≤ℤ◌, [], ◌∷◌, ◌++◌};
+ghost use Rattle.std.specs.Prelude.{length, IfOk, OnOk, IfErr, IsErrOf, IsTrue};
 ghost use Rattle.sbpl_sweep.specs.Bands.{IsIn, IsCovered};
 ghost use Rattle.sbpl_sweep.specs.Widths.{most_cells};
 ghost use Rattle.sbpl_sweep.specs.Gathered.{IsListed, AreInOrder, AreCovered, IsStopOf, GoesOn, IsNext, AddsBand};
@@ -9,7 +10,7 @@ ghost use Rattle.sbpl_sweep.specs.Gathered.{AreSortedBands, CoverTheSame, AreBou
 use crate::band::Band;
 use crate::cell::Cell;
 use crate::rows::MOST_CELLS;
-use crate::stop::Stop;
+use crate::stop::SweepStop;
 use sbpl_mprim::NoMemory;
 use std::alloc::Global;
 
@@ -37,24 +38,24 @@ fn next_column(cells: &[Cell], band: &Band) -> i64
 }
 
 /// Adds a cell. `TooMany` where the cells are then more than a motion may sweep.
-fn push_cell(cells: &mut Vec<Cell>, cell: Cell) -> Result<(), Stop>
+fn push_cell(cells: &mut Vec<Cell>, cell: Cell) -> Result<(), SweepStop>
     requires few { length cells.old.items ≤ most_cells }
     ensures added { OnOk result (cells.new.items ≡ cells.old.items ++ cell ∷ []) }
     ensures few { OnOk result (length cells.new.items ≤ most_cells) }
-    ensures more { IsErrOf result Stop.TooMany → (cells.new.items ≡ cells.old.items ++ cell ∷ [])
+    ensures more { IsErrOf result SweepStop.TooMany → (cells.new.items ≡ cells.old.items ++ cell ∷ [])
         × (most_cells < length cells.new.items) }
 {
     if let Err(_) = cells.push(cell) {
-        return Err(Stop::NoMemory);
+        return Err(SweepStop::NoMemory);
     }
     if cells.len() as u64 > MOST_CELLS {
-        return Err(Stop::TooMany);
+        return Err(SweepStop::TooMany);
     }
     Ok(())
 }
 
 /// Adds the cells of a band that are not listed yet.
-fn push_band(cells: &mut Vec<Cell>, band: &Band) -> Result<(), Stop>
+fn push_band(cells: &mut Vec<Cell>, band: &Band) -> Result<(), SweepStop>
     requires few { length cells.old.items ≤ most_cells }
     requires ordered { AreInOrder cells.old.items }
     requires goes_on { GoesOn cells.old.items band.now }
@@ -62,7 +63,7 @@ fn push_band(cells: &mut Vec<Cell>, band: &Band) -> Result<(), Stop>
     ensures added { OnOk result (AddsBand cells.old.items band.now cells.new.items) }
     ensures all { OnOk result ((x : ℤ) → IsIn band.now x band.now.y → IsListed cells.new.items x band.now.y) }
     ensures few { OnOk result (length cells.new.items ≤ most_cells) }
-    ensures more { IsErrOf result Stop.TooMany → AddsBand cells.old.items band.now cells.new.items
+    ensures more { IsErrOf result SweepStop.TooMany → AddsBand cells.old.items band.now cells.new.items
         × (most_cells < length cells.new.items) }
 {
     let mut x = next_column(cells, band);
@@ -74,7 +75,7 @@ fn push_band(cells: &mut Vec<Cell>, band: &Band) -> Result<(), Stop>
 }
 
 /// Lists the cells of bands that are in order.
-fn list_cells(alloc: Global, bands: &[Band]) -> Result<Vec<Cell>, Stop>
+fn list_cells(alloc: Global, bands: &[Band]) -> Result<Vec<Cell>, SweepStop>
     requires in_order { AreSortedBands bands.now }
     requires bounded { (x y : ℤ) → IsCovered bands.now x y → x ≤ℤ pos 1000000000000000 }
     ensures cells { IfOk result (λ v. AreCovered bands.now v.items) }
@@ -97,7 +98,7 @@ fn sort_bands(bands: &mut Vec<Band>) -> Result<(), NoMemory>
 }
 
 /// Lists the cells that bands cover, each once and in order. It brings the bands into order.
-pub(crate) fn gather(alloc: Global, bands: &mut Vec<Band>) -> Result<Vec<Cell>, Stop>
+pub(crate) fn gather(alloc: Global, bands: &mut Vec<Band>) -> Result<Vec<Cell>, SweepStop>
     requires bounded { AreBounded bands.old.items }
     ensures cells { IfOk result (λ v. AreCovered bands.old.items v.items) }
     ensures stop { IfErr result (IsStopOf bands.old.items) }

@@ -1,6 +1,7 @@
 //! Which cells judging primitives reads.
 
-ghost use Rattle.std.specs.Prelude.{◌≡◌, ℕ, ◌+◌, ◌≤◌, ◌++◌, List, length, map, slice_get, sum_by, Some, IsTrue, false, IfOk, OnOk};
+ghost use Rattle.std.specs.Prelude.{◌≡◌, ℕ, ◌+◌, ◌≤◌, ◌++◌, List, length, map, slice_get, sum_by, Some};
+ghost use Rattle.std.specs.Prelude.{IsTrue, false, IfOk, OnOk};
 ghost use Rattle.sbpl_sweep.specs.declared.cell.Cell.{Cell};
 ghost use Rattle.sbpl_sweep.specs.Gathered.{AreInOrder};
 ghost use Rattle.sbpl_sweep.specs.Widths.{cell_count};

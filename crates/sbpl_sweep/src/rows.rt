@@ -1,6 +1,7 @@
 //! The cells that a disc touches, row by row.
 
-ghost use Rattle.std.specs.Prelude.{◌≡◌, ℕ, ℤ, pos, negsuc, ◌+◌, ◌*◌, ◌^◌, ◌<◌, ◌≤◌, ◌*ℤ◌, ◌+ℤ◌, OnOk, IsErrOf};
+ghost use Rattle.std.specs.Prelude.{◌≡◌, ℕ, ℤ, pos, negsuc, ◌+◌, ◌*◌, ◌^◌, ◌<◌, ◌≤◌, ◌*ℤ◌};
+ghost use Rattle.std.specs.Prelude.{◌+ℤ◌, OnOk, IsErrOf};
 ghost use Rattle.sbpl_mprim.specs.sbpl_cfg.declared.pose.Pose.{Pose};
 ghost use Rattle.sbpl_mprim.specs.sbpl_cfg.Environment.{IsWithin};
 ghost use Rattle.sbpl_mprim.specs.Primitives.{IsOffsetInRange};
@@ -11,7 +12,7 @@ ghost use Rattle.sbpl_sweep.specs.Discs.{IsInBounds};
 use crate::band::Band;
 use crate::disc::Disc;
 use crate::reach::{Axis, axis_at, reach_of, shrunk};
-use crate::stop::Stop;
+use crate::stop::SweepStop;
 use sbpl_mprim::{NoMemory, Pose};
 
 /// The most cells that a motion may sweep.
@@ -150,17 +151,17 @@ fn push_cells_of(bands: &mut Vec<Band>, disc: &Disc, left: u64, right: u64) -> R
 }
 
 /// Adds the cells that a disc sweeps, if its own row has no more than a motion may sweep.
-pub(crate) fn push_disc(bands: &mut Vec<Band>, disc: &Disc) -> Result<(), Stop>
+pub(crate) fn push_disc(bands: &mut Vec<Band>, disc: &Disc) -> Result<(), SweepStop>
     requires bounds { IsInBounds disc.now }
     ensures cells { (cell : ℤ) (radius : ℕ) (p : Pose) → IsDisc cell radius p disc.now
         → OnOk result (AddsDisc cell radius p bands.old.items bands.new.items) }
     ensures wide { (cell : ℤ) (radius : ℕ) (p : Pose) → IsDisc cell radius p disc.now
-        → IsErrOf result Stop.TooMany → HasWideRow cell radius p }
+        → IsErrOf result SweepStop.TooMany → HasWideRow cell radius p }
 {
     let left = reach_of(disc.column.before, disc.side, disc.radius);
     let right = reach_of(disc.column.after, disc.side, disc.radius);
     if left + right >= MOST_CELLS {
-        return Err(Stop::TooMany);
+        return Err(SweepStop::TooMany);
     }
     push_cells_of(bands, disc, left, right)?;
     Ok(())

@@ -1,6 +1,7 @@
 //! The cells that a motion sweeps.
 
-ghost use Rattle.std.specs.Prelude.{◌≡◌, ℕ, ℤ, pos, negsuc, ◌↔◌, ◌^◌, ◌<◌, ◌≤◌, slice_get, Some, length, IfOk, OnOk, IfErr};
+ghost use Rattle.std.specs.Prelude.{◌≡◌, ℕ, ℤ, pos, negsuc, ◌↔◌, ◌^◌, ◌<◌, ◌≤◌, slice_get, Some};
+ghost use Rattle.std.specs.Prelude.{length, IfOk, OnOk, IfErr};
 ghost use Rattle.sbpl_mprim.specs.sbpl_cfg.declared.pose.Pose.{Pose};
 ghost use Rattle.sbpl_mprim.specs.sbpl_cfg.Environment.{IsWithin};
 ghost use Rattle.sbpl_mprim.specs.Primitives.{IsOffsetInRange};
@@ -12,7 +13,7 @@ use crate::band::Band;
 use crate::cell::Cell;
 use crate::gathering::gather;
 use crate::rows::{disc_of, push_disc};
-use crate::stop::Stop;
+use crate::stop::SweepStop;
 use sbpl_mprim::{NoMemory, Pose};
 use std::alloc::Global;
 
@@ -36,7 +37,7 @@ fn single_bands(alloc: Global, cells: &[Cell]) -> Result<Vec<Band>, NoMemory>
 }
 
 /// Gathers bands where they have become many.
-fn compact(alloc: Global, bands: &mut Vec<Band>) -> Result<(), Stop>
+fn compact(alloc: Global, bands: &mut Vec<Band>) -> Result<(), SweepStop>
     requires bounded { AreBounded bands.old.items }
     ensures same { OnOk result (CoverTheSame bands.old.items bands.new.items) }
     ensures stop { IfErr result (IsStopOf bands.old.items) }
@@ -55,7 +56,7 @@ pub(crate) fn swept_cells(
     cell: i64,
     radius: u64,
     poses: &[Pose],
-) -> Result<Vec<Cell>, Stop>
+) -> Result<Vec<Cell>, SweepStop>
     requires cell { IsWithin (pos 1) (pos 1000000000000) cell }
     requires radius { radius ≤ 10 ^ 12 }
     requires poses { (i : ℕ) (p : Pose) → slice_get poses.now i ≡ Some p → IsOffsetInRange p }

@@ -8,7 +8,7 @@ ghost use Rattle.sbpl_sweep.specs.Sweeping.{AreFewSweptAt, IsOwnCause};
 use crate::cell::Cell;
 use crate::centres::centre_cells;
 use crate::fault::SweepFault;
-use crate::stop::Stop;
+use crate::stop::SweepStop;
 use crate::sweeping::swept_cells;
 use sbpl_mprim::{NoMemory, Prims, Runs};
 use std::alloc::Global;
@@ -40,8 +40,8 @@ fn swept_by(alloc: Global, prims: &Prims, radius: u64, i: u32) -> Result<Vec<Cel
     let cell = prims.cell();
     match swept_cells(alloc, cell, radius, prims.get(i).poses.as_slice()) {
         Ok(cells) => Ok(cells),
-        Err(Stop::TooMany) => Err(SweepFault::TooWide(i)),
-        Err(Stop::NoMemory) => Err(SweepFault::NoMemory),
+        Err(SweepStop::TooMany) => Err(SweepFault::TooWide(i)),
+        Err(SweepStop::NoMemory) => Err(SweepFault::NoMemory),
     }
 }
 

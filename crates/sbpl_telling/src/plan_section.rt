@@ -2,12 +2,12 @@
 
 ghost use Rattle.std.specs.Prelude.{◌≡◌, ◌++◌, IfOk, OnOk, flat_map};
 ghost use Rattle.sbpl_promises.specs.sbpl_report.Report.{found_text, outcome_text, pass_text, path_text, place_text};
-ghost use Rattle.sbpl_promises.specs.sbpl_report.Report.{section_text, spent_text, spot_text, step_text};
+ghost use Rattle.sbpl_promises.specs.sbpl_report.Report.{section_text, spent_text, report_pose_text, step_text};
 
 use sbpl_promises::Piece::{Bytes, Milli, Number};
 use sbpl_promises::{
-    Found, NoMemory, Outcome, Pass, PathRecord, PathStep, Place, PlanRecord, Spot, TraceLine,
-    push_all, push_bytes,
+    Found, NoMemory, Outcome, PassRecord, PathRecord, PathStep, Place, PlanRecord, ReportPose,
+    TraceLine, push_all, push_bytes,
 };
 use std::alloc::Global;
 
@@ -32,7 +32,7 @@ fn push_found(out: &mut Vec<u8>, found: Found) -> Result<(), NoMemory>
 
 /// Appends the line of a pass.
 #[tactic(auto, unfolding(crate::specs::Report::pass_text))]
-fn push_pass(out: &mut Vec<u8>, pass: &Pass<TraceLine>) -> Result<(), NoMemory>
+fn push_pass(out: &mut Vec<u8>, pass: &PassRecord<TraceLine>) -> Result<(), NoMemory>
     ensures appended { OnOk result (out.new.items ≡ out.old.items ++ pass_text pass.now) }
 {
     push_all(
@@ -49,7 +49,7 @@ fn push_pass(out: &mut Vec<u8>, pass: &Pass<TraceLine>) -> Result<(), NoMemory>
 }
 
 /// Appends the lines of passes.
-fn push_passes(out: &mut Vec<u8>, passes: &[Pass<TraceLine>]) -> Result<(), NoMemory>
+fn push_passes(out: &mut Vec<u8>, passes: &[PassRecord<TraceLine>]) -> Result<(), NoMemory>
     ensures appended { OnOk result (out.new.items ≡ out.old.items ++ flat_map pass_text passes.now) }
 {
     for pass in passes {
@@ -77,12 +77,12 @@ fn push_place(out: &mut Vec<u8>, place: Place) -> Result<(), NoMemory>
 }
 
 /// Appends where a state is, and the end of its line.
-fn push_spot(out: &mut Vec<u8>, spot: Spot) -> Result<(), NoMemory>
-    ensures appended { OnOk result (out.new.items ≡ out.old.items ++ spot_text spot) }
+fn push_report_pose(out: &mut Vec<u8>, report_pose: ReportPose) -> Result<(), NoMemory>
+    ensures appended { OnOk result (out.new.items ≡ out.old.items ++ report_pose_text report_pose) }
 {
-    match spot {
-        Spot::Pose(place) => push_place(out, place),
-        Spot::Cell(x, y) => push_all(
+    match report_pose {
+        ReportPose::Pose(place) => push_place(out, place),
+        ReportPose::Cell(x, y) => push_all(
             out,
             &[
                 Number(u64::from(x)),
@@ -103,7 +103,7 @@ fn push_step(out: &mut Vec<u8>, step: &PathStep) -> Result<(), NoMemory>
         out,
         &[Bytes(b"step "), Number(u64::from(step.id)), Bytes(b" ")],
     )?;
-    push_spot(out, step.spot)
+    push_report_pose(out, step.report_pose)
 }
 
 /// Appends the lines of steps.
@@ -134,7 +134,7 @@ fn push_path(out: &mut Vec<u8>, path: &PathRecord) -> Result<(), NoMemory>
             Bytes(b"\npose "),
         ],
     )?;
-    push_spot(out, path.start)?;
+    push_report_pose(out, path.start)?;
     push_steps(out, steps)
 }
 

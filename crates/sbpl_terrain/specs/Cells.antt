@@ -6,7 +6,7 @@ use Rattle.sbpl_map.specs.CellMap.{CellMap, cost_at}
 -- Of a graph over a map:
 -- map: the present costs of the cells
 -- over: the same graph over another map
--- reads: the evaluation of arc k of state s reads cell (x, y)
+-- reads: the judgement of arc k of state s reads cell (x, y)
 -- is_made: its parts belong together
 pub record Cells (W : Type 0) : Type 1 where
   pub map : W → CellMap

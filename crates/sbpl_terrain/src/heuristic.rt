@@ -43,7 +43,8 @@ pub trait Heuristic<W: Terrain>: Guide + Drop {
     }
 
     /// It guides to the goal.
-    ghost guides_there: { (guide : Self) (w : W) (goal : ℕ) → is_made_for guide w goal → Self.guides guide (W.network w) goal };
+    ghost guides_there: { (guide : Self) (w : W) (goal : ℕ) → is_made_for guide w goal
+        → Self.guides guide (W.network w) goal };
 
     /// It says what it should.
     ghost says_so: { (guide : Self) (w : W) (goal : ℕ) → is_made_for guide w goal → says w goal (Self.distance guide) };

@@ -30,7 +30,7 @@ pub trait Terrain: Graph {
         ensures refused { OnErr result (self.new ≡ self.old) }
         ensures kept { cells.is_made self.new };
 
-    /// Adds to a list the states at one end of all arcs with a head whose evaluation reads cell `(x, y)`, which may be off the map.
+    /// Adds to a list the states at one end of all arcs with a head whose judgement reads cell `(x, y)`, which may be off the map.
     /// A state can be added more than once. After `NoMemory` the list is unchanged.
     fn ends_reading(&self, x: u32, y: u32, end: ArcEnd, into: &mut Vec<u32>) -> Result<(), NoMemory>
         ensures ends { OnOk result (AddsEnds Self.network cells end self.now (pos x) (pos y) into.old.items into.new.items) }

@@ -7,7 +7,7 @@ use Rattle.sbpl_promises.specs.sbpl_map.CellMap.{CellMap}
 use Rattle.sbpl_promises.specs.sbpl_map.ChangeText.{IsPlaceOnMap}
 use Rattle.sbpl_promises.specs.sbpl_map.declared.write.Write.{Write}
 use Rattle.sbpl_promises.specs.Causes.{AreMovesIn}
-use Rattle.sbpl_promises.specs.Sites.{Site, WordPlacesAlike, Wording, start_after}
+use Rattle.sbpl_promises.specs.Sites.{Site, WordPlacesAlike, Reporting, start_after}
 use Rattle.sbpl_worlds.specs.Moves.{move_at, state_or}
 use Rattle.sbpl_worlds.proofs.OnMaps.{at_place}
 
@@ -53,7 +53,7 @@ move_is : (moves : List (Option Place)) (k : ℕ) (place : Option Place) → sli
 move_is moves k place at = rw at refl
 
 -- the start of the next plan is the place that is given with its batch, or the start as it is
-pub start_next : {W : Type 0} (words : Wording W) (w : W) (start : ℕ) (moves : Option (List (Option Place))) (k : ℕ)
+pub start_next : {W : Type 0} (words : Reporting W) (w : W) (start : ℕ) (moves : Option (List (Option Place))) (k : ℕ)
     → IfSome moves (λ l. k < length l)
     → start_after words w start moves (k + 1) ≡ state_or words w (move_at moves k) (start_after words w start moves k)
 unfolding last_of
@@ -66,7 +66,7 @@ start_next words w start (Some moves) k here =
     rw (add-one, move_is moves k at.0 at.1) (ap (λ (o : Option ℕ). unwrap_or o start) later
     ∙ by_last (words.state w) start at.0 (last_of (words.state w) None moves k))
 
-pub start_first : {W : Type 0} (words : Wording W) (w : W) (start : ℕ) (moves : Option (List (Option Place)))
+pub start_first : {W : Type 0} (words : Reporting W) (w : W) (start : ℕ) (moves : Option (List (Option Place)))
     → start_after words w start moves 0 ≡ start
 start_first words w start None = refl
 start_first words w start (Some moves) = refl
@@ -83,21 +83,21 @@ place_on_other m now headings (Some p) width height (cell, heading) = (
 
 move_on : {W : Type 0} (on : Site W) (w : W) (batches : List (List Write)) (moves : Option (List (Option Place)))
     (k : ℕ) → IfSome moves (AreMovesIn on w batches) → k < length batches
-    → IsPlaceOnMap (on.cells.map w) (on.wording.headings w) (move_at moves k)
+    → IsPlaceOnMap (on.cells.map w) (on.reporting.headings w) (move_at moves k)
 move_on on w batches None k are here = tt
 move_on on w batches (Some moves) k are here =
     let at = some_at moves k (let same = are.each in omega arith) in
-    subst (λ (o : Option Place). IsPlaceOnMap (on.cells.map w) (on.wording.headings w) o)
+    subst (λ (o : Option Place). IsPlaceOnMap (on.cells.map w) (on.reporting.headings w) o)
     (sym (move_is moves k at.0 at.1))
-    (at_place (λ o. IsPlaceOnMap (on.cells.map w) (on.wording.headings w) o) moves are.places k at.0 at.1)
+    (at_place (λ o. IsPlaceOnMap (on.cells.map w) (on.reporting.headings w) o) moves are.places k at.0 at.1)
 
 -- where the moves are on the map of a world, each is on another map of its size
 pub move_on_map : {W : Type 0} (on : Site W) (w : W) (now : CellMap) (batches : List (List Write))
     (moves : Option (List (Option Place))) (k : ℕ) → IfSome moves (AreMovesIn on w batches) → k < length batches
     → now.width ≡ (on.cells.map w).width → now.height ≡ (on.cells.map w).height
-    → IsPlaceOnMap now (on.wording.headings w) (move_at moves k)
+    → IsPlaceOnMap now (on.reporting.headings w) (move_at moves k)
 move_on_map on w now batches moves k are here width height =
-    place_on_other (on.cells.map w) now (on.wording.headings w) (move_at moves k) width height
+    place_on_other (on.cells.map w) now (on.reporting.headings w) (move_at moves k) width height
     (move_on on w batches moves k are here)
 
 pub within : {W : Type 0} (on : Site W) (w : W) (batches : List (List Write)) (moves : Option (List (Option Place)))
@@ -106,7 +106,7 @@ within on w batches None k are here = tt
 within on w batches (Some moves) k are here = let same = are.each in omega arith
 
 -- the start of the next plan, as it is found from the one that was
-pub next_is : {W : Type 0} (words : Wording W) (w now : W) (start : ℕ) (moves : Option (List (Option Place)))
+pub next_is : {W : Type 0} (words : Reporting W) (w now : W) (start : ℕ) (moves : Option (List (Option Place)))
     (k here next : ℕ) (place : Option Place) → IfSome moves (λ l. k < length l)
     → start_after words w start moves k ≡ here → WordPlacesAlike words w now → place ≡ move_at moves k
     → next ≡ state_or words now place here → start_after words w start moves (k + 1) ≡ next
@@ -117,13 +117,13 @@ next_is words w now start moves k here next place room was alike at is =
     start_next words w start moves k room ∙ one ∙ sym is
 
 -- where no move is given the start stays
-pub stays_put : {W : Type 0} (words : Wording W) (now : W) (moves : Option (List (Option Place))) (k here next : ℕ)
+pub stays_put : {W : Type 0} (words : Reporting W) (now : W) (moves : Option (List (Option Place))) (k here next : ℕ)
     (place : Option Place) → moves ≡ None → place ≡ move_at moves k → next ≡ state_or words now place here → next ≡ here
 stays_put words now moves k here next place none at is =
     let nowhere : place ≡ None = at ∙ ap (λ (o : Option (List (Option Place))). move_at o k) none in
     is ∙ ap (λ (o : Option Place). state_or words now o here) nowhere
 
 -- places are worded alike in a world that has another map
-pub alike_over : {W : Type 0} (on : Site W) → ((w : W) (m : CellMap) → WordPlacesAlike on.wording w (on.cells.over w m))
-    → (w v : W) → v ≡ on.cells.over w (on.cells.map v) → WordPlacesAlike on.wording w v
-alike_over on stay w v same = subst (λ u. WordPlacesAlike on.wording w u) (sym same) (stay w (on.cells.map v))
+pub alike_over : {W : Type 0} (on : Site W) → ((w : W) (m : CellMap) → WordPlacesAlike on.reporting w (on.cells.over w m))
+    → (w v : W) → v ≡ on.cells.over w (on.cells.map v) → WordPlacesAlike on.reporting w v
+alike_over on stay w v same = subst (λ u. WordPlacesAlike on.reporting w u) (sym same) (stay w (on.cells.map v))

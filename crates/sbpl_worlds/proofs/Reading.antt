@@ -7,14 +7,14 @@ use Rattle.sbpl_promises.specs.sbpl_job.declared.job.Sources.{Sources}
 use Rattle.sbpl_promises.specs.sbpl_report.declared.refusal.Input.TheVariants as input
 use Rattle.sbpl_promises.specs.sbpl_report.declared.refusal.Refusal.{Refusal}
 use Rattle.sbpl_promises.specs.sbpl_report.declared.refusal.Refusal.TheVariants as refusal
-use Rattle.sbpl_promises.specs.sbpl_report.declared.refusal.Stop.{Stop}
-use Rattle.sbpl_promises.specs.sbpl_report.declared.refusal.Stop.TheVariants as stop
+use Rattle.sbpl_promises.specs.sbpl_report.declared.refusal.JobStop.{JobStop}
+use Rattle.sbpl_promises.specs.sbpl_report.declared.refusal.JobStop.TheVariants as stop
 use Rattle.sbpl_promises.specs.Causes.{AtName, ChangesStopFor, EarlyStopsFor, IsCause, IsChangesCause, IsChangesRefused, IsDearStop}
 use Rattle.sbpl_promises.specs.Causes.{IsFaultyChanges, IsReadText, IsTooDearJob, IsTooLong, IsWideStop, LatticeStopsFor, PrimitivesStopFor}
-use Rattle.sbpl_promises.specs.Causes.{ReadsCourse, ReadsEnvironment, ReadsPrimitives}
+use Rattle.sbpl_promises.specs.Causes.{ReadsUpdates, ReadsEnvironment, ReadsPrimitives}
 use Rattle.sbpl_promises.specs.WorldFiles.{WorldFiles}
 use Rattle.sbpl_promises.specs.Texts.{Scope}
-use Rattle.sbpl_promises.specs.declared.course.Course.{Course}
+use Rattle.sbpl_promises.specs.declared.updates.Updates.{Updates}
 use Rattle.sbpl_promises.specs.Writing.{DeskState, Names, ReadFailed, ReadsOnly, Told}
 
 -- what a desk keeps over two calls that read it keeps over both
@@ -48,7 +48,7 @@ primitives_before held held' from e ps same says = record {
 }
 
 -- a stop for the primitive file is one, where an environment was read before
-pub primitives_stop : (s t u : DeskState) (from : Sources) (e : Environment) (cells : List ℕ) (x : Stop)
+pub primitives_stop : (s t u : DeskState) (from : Sources) (e : Environment) (cells : List ℕ) (x : JobStop)
     → ReadsEnvironment s.held from e cells → ReadsOnly s t → PrimitivesStopFor t u from e x → LatticeStopsFor s u from x
 primitives_stop s t u from e cells stop.NoMemory says same cause = tt
 primitives_stop s t u from e cells (stop.Refused r m) says same cause = by_refusal r cause
@@ -75,7 +75,7 @@ primitives_stop s t u from e cells (stop.Refused r m) says same cause = by_refus
     by_refusal _ none = absurd none
 
 -- a stop for primitives that are too wide is one, where an environment and these primitives were read before
-pub wide_stop : (s u : DeskState) (from : Sources) (e : Environment) (cells : List ℕ) (ps : Primitives) (x : Stop)
+pub wide_stop : (s u : DeskState) (from : Sources) (e : Environment) (cells : List ℕ) (ps : Primitives) (x : JobStop)
     → ReadsEnvironment s.held from e cells → ReadsPrimitives s.held from e ps → IsWideStop from.prims ps from.radius x
     → LatticeStopsFor s u from x
 wide_stop s u from e cells ps stop.NoMemory says stand cause = tt
@@ -84,7 +84,7 @@ wide_stop s u from e cells ps (stop.Refused (refusal.TooWide place) m) says stan
 wide_stop s u from e cells ps (stop.Refused _ m) says stand cause = absurd cause
 
 -- a stop for primitives that are too dear is one, where this was read before
-pub dear_stop : (s u : DeskState) (from : Sources) (place : ℕ) (x : Stop) → IsDearStop from.prims place x
+pub dear_stop : (s u : DeskState) (from : Sources) (place : ℕ) (x : JobStop) → IsDearStop from.prims place x
     → IsTooDearJob s.held from place → LatticeStopsFor s u from x
 dear_stop s u from place stop.NoMemory dear so = tt
 dear_stop s u from place (stop.Refused (refusal.TooDear i) m) (same, plain) so =
@@ -93,7 +93,7 @@ dear_stop s u from place (stop.Refused _ m) dear so = absurd dear
 
 -- a change file whose text was read and refused
 pub changes_refused : {A : Type 0} (s t : DeskState) (changes : Option (List ℕ)) (name : List ℕ) (scope : Scope)
-    (text : List ℕ) (r : Result A Stop) → changes ≡ Some name → IsReadText (s.held name) text
+    (text : List ℕ) (r : Result A JobStop) → changes ≡ Some name → IsReadText (s.held name) text
     → IfErr r (IsChangesRefused scope name text) → IfErr r (ChangesStopFor s t changes scope)
 changes_refused s t changes name scope text (Ok x) is read faulty = tt
 changes_refused s t changes name scope text (Err stop.NoMemory) is read faulty = tt
@@ -103,17 +103,17 @@ changes_refused s t changes name scope text (Err (stop.Refused (refusal.Changes 
 changes_refused s t changes name scope text (Err (stop.Refused _ m)) is read faulty = absurd faulty
 
 -- what a desk held later it held before
-pub course_since : (held later : Told) (changes : Option (List ℕ)) (s : Scope) (c : Course) → Stays held later
-    → ReadsCourse later changes s c → ReadsCourse held changes s c
-course_since held later None s c stays is = is
-course_since held later (Some name) s c stays (text, read, is) =
+pub updates_since : (held later : Told) (changes : Option (List ℕ)) (s : Scope) (c : Updates) → Stays held later
+    → ReadsUpdates later changes s c → ReadsUpdates held changes s c
+updates_since held later None s c stays is = is
+updates_since held later (Some name) s c stays (text, read, is) =
     (text, subst (λ (held_bytes : Option (List ℕ)). IsReadText held_bytes text) (stays name) read, is)
 
 -- a stop for the change file, where a world was read before, is an early stop of the job
-pub course_stop : {W : Type 0} (s t u : DeskState) (f : WorldFiles W) (changes : Option (List ℕ)) (w : W) (e : Stop)
+pub updates_stop : {W : Type 0} (s t u : DeskState) (f : WorldFiles W) (changes : Option (List ℕ)) (w : W) (e : JobStop)
     → f.stand_for s.held w → ReadsOnly s t → ChangesStopFor t u changes (f.scope w) e → EarlyStopsFor s u f changes e
-course_stop s t u f changes w stop.NoMemory says same cause = tt
-course_stop s t u f changes w (stop.Refused r m) says same cause = inr (by_refusal r cause)
+updates_stop s t u f changes w stop.NoMemory says same cause = tt
+updates_stop s t u f changes w (stop.Refused r m) says same cause = inr (by_refusal r cause)
   where
     by_refusal : (r : Refusal) → ChangesStopFor t u changes (f.scope w) (stop.Refused r m)
         → IsChangesCause s.held (ReadFailed s u) f changes r

@@ -2,17 +2,17 @@
 
 use crate::workspace::Workspace;
 use sbpl_promises::{
-    FoundPath, Graph, Nav, NoMemory, Octile, Outcome, PathStep, Place, Spot, worlds_are_grids,
+    FoundPath, Graph, Nav, NoMemory, Octile, Outcome, PathStep, Place, ReportPose, worlds_are_grids,
 };
 use std::alloc::Global;
 
 impl Workspace for Nav {
     ghost use Rattle.std.proofs.Common.{refl};
-    ghost use Rattle.sbpl_promises.specs.GridSite.{grid_wording};
+    ghost use Rattle.sbpl_promises.specs.GridSite.{grid_reporting};
 
     type Best = Octile;
 
-    ghost wording = { grid_wording };
+    ghost reporting = { grid_reporting };
 
     fn ends(&self) -> (u32, u32) {
         let env = self.env();
@@ -23,15 +23,21 @@ impl Workspace for Nav {
         (start, goal)
     }
 
-    fn spot(&self, state: u32) -> Spot {
+    fn report_pose(&self, state: u32) -> ReportPose {
         let width = self.env().width;
-        Spot::Cell(state % width, state / width)
+        ReportPose::Cell(state % width, state / width)
     }
 
     fn step(&self, from: u32, arc: u32) -> (u32, PathStep) {
         let head = self.head(from, arc).unwrap();
-        let spot = self.spot(head);
-        (head, PathStep { id: arc, spot })
+        let report_pose = self.report_pose(head);
+        (
+            head,
+            PathStep {
+                id: arc,
+                report_pose,
+            },
+        )
     }
 
     fn start_at(&self, place: Option<Place>, start: u32) -> u32 {

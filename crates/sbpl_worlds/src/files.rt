@@ -4,8 +4,8 @@ ghost use Rattle.std.specs.Prelude.{◌≡◌, ◌≢◌, ◌≤◌, ◌^◌, []
 ghost use Rattle.sbpl_promises.specs.LatticeSite.{lattice_site};
 ghost use Rattle.sbpl_promises.specs.sbpl_lists.Messages.{IsPlainMessage};
 ghost use Rattle.sbpl_promises.specs.Causes.{ChangesStopFor, IsChangesRefused, IsEnvironmentRefused, IsPrimitivesRefused};
-ghost use Rattle.sbpl_promises.specs.Causes.{IsReadText, IsUnread, LatticeStopsFor, PrimitivesStopFor, IsCourseIn};
-ghost use Rattle.sbpl_promises.specs.Causes.{ReadsCourse, ReadsEnvironment, ReadsPrimitives, scope_of};
+ghost use Rattle.sbpl_promises.specs.Causes.{IsReadText, IsUnread, LatticeStopsFor, PrimitivesStopFor, AreUpdatesIn};
+ghost use Rattle.sbpl_promises.specs.Causes.{ReadsUpdates, ReadsEnvironment, ReadsPrimitives, scope_of};
 ghost use Rattle.sbpl_promises.specs.Explained.{ExplainsChanges, ExplainsLattice};
 ghost use Rattle.sbpl_promises.specs.Texts.{HasChangeFault, IsChangeText, IsEnvironmentText, IsPrimitiveText, Scope, still_scope};
 ghost use Rattle.sbpl_promises.specs.sbpl_map.ChangeText.{AreOnMap};
@@ -13,8 +13,8 @@ ghost use Rattle.sbpl_promises.specs.sbpl_map.declared.fault.ChangeFault.TheVari
 ghost use Rattle.sbpl_promises.specs.Writing.{ReadsOnly};
 
 use sbpl_promises::{
-    ChangeFault, Changes, Course, Desk, Env, EnvFault, Grid, Input, Lattice, ListOf, Map, Message,
-    Name, NoMemory, PrimFault, Prims, ReadStop, Refusal, Sources, Stop, changes_message,
+    ChangeFault, Changes, Desk, Env, EnvFault, Grid, Input, JobStop, Lattice, ListOf, Map, Message,
+    Name, NoMemory, PrimFault, Prims, ReadStop, Refusal, Sources, Updates, changes_message,
     environment_message, plain_message, primitives_message, read_changes, read_env, read_moves,
     read_prims,
 };
@@ -36,7 +36,7 @@ pub fn read_file<D: Desk>(
     name: &Name,
     input: Input,
     desk: &mut D,
-) -> Result<Vec<u8>, Stop>
+) -> Result<Vec<u8>, JobStop>
     ensures text { IfOk result (λ text. IsReadText ((D.state desk.old).held name.now) text.items) }
     ensures stop { IfErr result (IsUnread (D.state desk.old) (D.state desk.new) name.now input) }
     ensures frame { ReadsOnly (D.state desk.old) (D.state desk.new) }
@@ -46,27 +46,27 @@ pub fn read_file<D: Desk>(
         Ok(()) => Ok(text),
         Err(ReadStop::Failed) => {
             let message = unread_message(alloc, name.as_str())?;
-            Err(Stop::Refused(Refusal::Read(input), message))
+            Err(JobStop::Refused(Refusal::Read(input), message))
         }
         Err(ReadStop::TooLong) => {
             let untold = ListOf::of(Vec::new(alloc));
-            Err(Stop::Refused(Refusal::Length(input), untold))
+            Err(JobStop::Refused(Refusal::Length(input), untold))
         }
-        Err(ReadStop::NoMemory) => Err(Stop::NoMemory),
+        Err(ReadStop::NoMemory) => Err(JobStop::NoMemory),
     }
 }
 
 /// The environment that the text of the file of this name stands for.
-fn judge_environment(alloc: Global, name: &Name, text: &[u8]) -> Result<(Env, Grid), Stop>
+fn judge_environment(alloc: Global, name: &Name, text: &[u8]) -> Result<(Env, Grid), JobStop>
     ensures stands { IfOk result (λ x. IsEnvironmentText text.now x.0 x.1) }
     ensures stop { IfErr result (IsEnvironmentRefused name.now text.now) }
 {
     match read_env(alloc, text) {
         Ok(found) => Ok(found),
-        Err(EnvFault::NoMemory) => Err(Stop::NoMemory),
+        Err(EnvFault::NoMemory) => Err(JobStop::NoMemory),
         Err(fault) => {
             let message = environment_message(alloc, name.as_str(), text, &fault)?;
-            Err(Stop::Refused(Refusal::Environment(fault), message))
+            Err(JobStop::Refused(Refusal::Environment(fault), message))
         }
     }
 }
@@ -76,7 +76,7 @@ pub(crate) fn read_environment<D: Desk>(
     alloc: Global,
     from: &Sources,
     desk: &mut D,
-) -> Result<(Env, Grid), Stop>
+) -> Result<(Env, Grid), JobStop>
     ensures says { IfOk result (λ x. ReadsEnvironment (D.state desk.old).held from.now x.0 x.1) }
     ensures stop { IfErr result (LatticeStopsFor (D.state desk.old) (D.state desk.new) from.now) }
     ensures explained { IfErr result (ExplainsLattice (D.state desk.old).held from.now) }
@@ -87,16 +87,16 @@ pub(crate) fn read_environment<D: Desk>(
 }
 
 /// The primitives that the text of the file of this name stands for, for this environment.
-fn judge_primitives(alloc: Global, name: &Name, text: &[u8], env: &Env) -> Result<Prims, Stop>
+fn judge_primitives(alloc: Global, name: &Name, text: &[u8], env: &Env) -> Result<Prims, JobStop>
     ensures stands { IfOk result (IsPrimitiveText env.now text.now) }
     ensures stop { IfErr result (IsPrimitivesRefused env.now name.now text.now) }
 {
     match read_prims(alloc, text, env.cell, env.headings) {
         Ok(prims) => Ok(prims),
-        Err(PrimFault::NoMemory) => Err(Stop::NoMemory),
+        Err(PrimFault::NoMemory) => Err(JobStop::NoMemory),
         Err(fault) => {
             let message = primitives_message(alloc, name.as_str(), text, &fault)?;
-            Err(Stop::Refused(Refusal::Primitives(fault), message))
+            Err(JobStop::Refused(Refusal::Primitives(fault), message))
         }
     }
 }
@@ -107,7 +107,7 @@ pub(crate) fn read_primitives<D: Desk>(
     from: &Sources,
     env: &Env,
     desk: &mut D,
-) -> Result<Prims, Stop>
+) -> Result<Prims, JobStop>
     ensures says { IfOk result (ReadsPrimitives (D.state desk.old).held from.now env.now) }
     ensures stop { IfErr result (PrimitivesStopFor (D.state desk.old) (D.state desk.new) from.now env.now) }
     ensures explained { IfErr result (ExplainsLattice (D.state desk.old).held from.now) }
@@ -119,21 +119,21 @@ pub(crate) fn read_primitives<D: Desk>(
 
 /// Why the change file of this name is refused, whose text has this fault, or that memory ran out. `moves` says whether its
 /// lines can say where the robot is.
-fn stop_for(alloc: Global, name: &Name, text: &[u8], moves: bool, fault: ChangeFault) -> Stop
+fn stop_for(alloc: Global, name: &Name, text: &[u8], moves: bool, fault: ChangeFault) -> JobStop
     ensures stop { (s : Scope) → (fault ≢ ChangeFaults.NoMemory → HasChangeFault s text.now fault)
         → IsChangesRefused s name.now text.now result }
 {
     if let ChangeFault::NoMemory = fault {
-        return Stop::NoMemory;
+        return JobStop::NoMemory;
     }
     match changes_message(alloc, name.as_str(), text, moves, &fault) {
-        Ok(message) => Stop::Refused(Refusal::Changes(fault), message),
-        Err(NoMemory) => Stop::NoMemory,
+        Ok(message) => JobStop::Refused(Refusal::Changes(fault), message),
+        Err(NoMemory) => JobStop::NoMemory,
     }
 }
 
-/// The course that the text of the file of this name stands for, in which the robot stays where it is.
-fn judge_still(alloc: Global, name: &Name, text: &[u8], map: &Map) -> Result<Course, Stop>
+/// The map updates that the text of the file of this name stands for, in which the robot stays where it is.
+fn judge_still(alloc: Global, name: &Name, text: &[u8], map: &Map) -> Result<Updates, JobStop>
     requires short { length text.now ≤ 2 ^ 30 }
     ensures stands { IfOk result (IsChangeText (still_scope map.now) text.now) }
     ensures on_map { IfOk result (λ c. AreOnMap map.now c.batches) }
@@ -141,7 +141,7 @@ fn judge_still(alloc: Global, name: &Name, text: &[u8], map: &Map) -> Result<Cou
     ensures stop { IfErr result (IsChangesRefused (still_scope map.now) name.now text.now) }
 {
     match read_changes(alloc, text, map) {
-        Ok(batches) => Ok(Course {
+        Ok(batches) => Ok(Updates {
             batches,
             moves: None,
         }),
@@ -149,15 +149,20 @@ fn judge_still(alloc: Global, name: &Name, text: &[u8], map: &Map) -> Result<Cou
     }
 }
 
-/// The course that the text of the file of this name stands for, whose lines can say where the robot is.
-fn judge_moving(alloc: Global, name: &Name, text: &[u8], lattice: &Lattice) -> Result<Course, Stop>
+/// The map updates that the text of the file of this name stands for, whose lines can say where the robot is.
+fn judge_moving(
+    alloc: Global,
+    name: &Name,
+    text: &[u8],
+    lattice: &Lattice,
+) -> Result<Updates, JobStop>
     requires short { length text.now ≤ 2 ^ 30 }
     ensures stands { IfOk result (IsChangeText (scope_of true lattice.now) text.now) }
-    ensures in_world { IfOk result (IsCourseIn lattice_site true lattice.now) }
+    ensures in_world { IfOk result (AreUpdatesIn lattice_site true lattice.now) }
     ensures stop { IfErr result (IsChangesRefused (scope_of true lattice.now) name.now text.now) }
 {
     match read_moves(alloc, text, lattice.map(), lattice.env().headings) {
-        Ok((batches, moves)) => Ok(Course {
+        Ok((batches, moves)) => Ok(Updates {
             batches,
             moves: Some(moves),
         }),
@@ -175,14 +180,14 @@ fn no_changes(alloc: Global, map: &Map) -> Result<Changes, NoMemory>
     }
 }
 
-/// The course of a change file in whose lines the robot stays where it is; one without batches where there is no such file.
+/// The map updates of a change file in whose lines the robot stays where it is; one without batches where there is no such file.
 pub(crate) fn read_still<D: Desk>(
     alloc: Global,
     changes: &Option<Name>,
     map: &Map,
     desk: &mut D,
-) -> Result<Course, Stop>
-    ensures says { IfOk result (ReadsCourse (D.state desk.old).held changes.now (still_scope map.now)) }
+) -> Result<Updates, JobStop>
+    ensures says { IfOk result (ReadsUpdates (D.state desk.old).held changes.now (still_scope map.now)) }
     ensures on_map { IfOk result (λ c. AreOnMap map.now c.batches) }
     ensures stays { IfOk result (λ c. c.moves ≡ None) }
     ensures stop { IfErr result (ChangesStopFor (D.state desk.old) (D.state desk.new) changes.now (still_scope map.now)) }
@@ -191,18 +196,18 @@ pub(crate) fn read_still<D: Desk>(
 {
     let Some(name) = changes else {
         return match no_changes(alloc, map) {
-            Ok(batches) => Ok(Course {
+            Ok(batches) => Ok(Updates {
                 batches,
                 moves: None,
             }),
-            Err(NoMemory) => Err(Stop::NoMemory),
+            Err(NoMemory) => Err(JobStop::NoMemory),
         };
     };
     let text = read_file(alloc, name, Input::Changes, desk)?;
     judge_still(alloc, name, text.as_slice(), map)
 }
 
-/// The course of the change file on a lattice; one without batches where there is no such file. Lines of the file can say where the
+/// The map updates of the change file on a lattice; one without batches where there is no such file. Lines of the file can say where the
 /// robot is where it may move.
 pub(crate) fn read_change_file<D: Desk>(
     alloc: Global,
@@ -210,9 +215,9 @@ pub(crate) fn read_change_file<D: Desk>(
     moving: bool,
     lattice: &Lattice,
     desk: &mut D,
-) -> Result<Course, Stop>
-    ensures says { IfOk result (ReadsCourse (D.state desk.old).held changes.now (scope_of moving lattice.now)) }
-    ensures in_world { IfOk result (IsCourseIn lattice_site moving lattice.now) }
+) -> Result<Updates, JobStop>
+    ensures says { IfOk result (ReadsUpdates (D.state desk.old).held changes.now (scope_of moving lattice.now)) }
+    ensures in_world { IfOk result (AreUpdatesIn lattice_site moving lattice.now) }
     ensures stop { IfErr result (ChangesStopFor (D.state desk.old) (D.state desk.new) changes.now (scope_of moving lattice.now)) }
     ensures explained { IfErr result (ExplainsChanges (D.state desk.old).held changes.now) }
     ensures frame { ReadsOnly (D.state desk.old) (D.state desk.new) }

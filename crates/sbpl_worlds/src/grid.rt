@@ -3,18 +3,18 @@
 ghost use Rattle.std.specs.Prelude.{◌≡◌, List, ℕ, IfErr, IfOk};
 ghost use Rattle.sbpl_promises.specs.sbpl_nav2d.World.{IsGridWorld};
 ghost use Rattle.sbpl_promises.specs.Causes.{AreRead, EarlyStopsFor, GridStopsFor, IsGridRefused, ReadsGrid, grid_files};
-ghost use Rattle.sbpl_promises.specs.Explained.{ExplainsGrid, ExplainsGridCourse};
+ghost use Rattle.sbpl_promises.specs.Explained.{ExplainsGrid, ExplainsGridUpdates};
 ghost use Rattle.sbpl_promises.specs.Texts.{IsGridText};
 ghost use Rattle.sbpl_promises.specs.Writing.{ReadsOnly};
 
 use crate::files::{read_file, read_still};
 use sbpl_promises::{
-    Course, Desk, EnvFault, Input, Map, Name, Nav, Refusal, Stop, grid_message, read_nav,
+    Desk, EnvFault, Input, JobStop, Map, Name, Nav, Refusal, Updates, grid_message, read_nav,
 };
 use std::alloc::Global;
 
 /// The grid that the text of the file of this name stands for.
-fn judge_grid(alloc: Global, name: &Name, text: &[u8]) -> Result<Nav, Stop>
+fn judge_grid(alloc: Global, name: &Name, text: &[u8]) -> Result<Nav, JobStop>
     ensures stands { IfOk result (λ w. (cells : List ℕ) × IsGridText text.now w.env cells
         × (w.map ≡ record { width = w.env.width; height = w.env.height; costs = cells })) }
     ensures kept { IfOk result IsGridWorld }
@@ -25,16 +25,16 @@ fn judge_grid(alloc: Global, name: &Name, text: &[u8]) -> Result<Nav, Stop>
             let map = Map::plain(env.width, env.height, grid);
             Ok(Nav::new(&env, map))
         }
-        Err(EnvFault::NoMemory) => Err(Stop::NoMemory),
+        Err(EnvFault::NoMemory) => Err(JobStop::NoMemory),
         Err(fault) => {
             let message = grid_message(alloc, name.as_str(), text, &fault)?;
-            Err(Stop::Refused(Refusal::Grid(fault), message))
+            Err(JobStop::Refused(Refusal::Grid(fault), message))
         }
     }
 }
 
 /// The grid of an environment file.
-fn read_grid<D: Desk>(alloc: Global, env: &Name, desk: &mut D) -> Result<Nav, Stop>
+fn read_grid<D: Desk>(alloc: Global, env: &Name, desk: &mut D) -> Result<Nav, JobStop>
     ensures says { IfOk result (ReadsGrid (D.state desk.old).held env.now) }
     ensures kept { IfOk result IsGridWorld }
     ensures stop { IfErr result (GridStopsFor (D.state desk.old) (D.state desk.new) env.now) }
@@ -45,21 +45,21 @@ fn read_grid<D: Desk>(alloc: Global, env: &Name, desk: &mut D) -> Result<Nav, St
     judge_grid(alloc, env, text.as_slice())
 }
 
-/// The grid of an environment file, and the course of a change file.
-pub fn read_grid_course<D: Desk>(
+/// The grid of an environment file, and the map updates of a change file.
+pub fn read_grid_updates<D: Desk>(
     alloc: Global,
     env: &Name,
     changes: &Option<Name>,
     desk: &mut D,
-) -> Result<(Nav, Course), Stop>
-    ensures course { IfOk result (λ x. AreRead (D.state desk.old).held (grid_files env.now) changes.now x.0 x.1) }
+) -> Result<(Nav, Updates), JobStop>
+    ensures updates { IfOk result (λ x. AreRead (D.state desk.old).held (grid_files env.now) changes.now x.0 x.1) }
     ensures stop { IfErr result (EarlyStopsFor (D.state desk.old) (D.state desk.new) (grid_files env.now) changes.now) }
-    ensures explained { IfErr result (ExplainsGridCourse (D.state desk.old).held env.now changes.now) }
+    ensures explained { IfErr result (ExplainsGridUpdates (D.state desk.old).held env.now changes.now) }
     ensures frame { ReadsOnly (D.state desk.old) (D.state desk.new) }
 {
     let nav = read_grid(alloc, env, desk)?;
     match read_still(alloc, changes, nav.map(), desk) {
-        Ok(course) => Ok((nav, course)),
+        Ok(updates) => Ok((nav, updates)),
         Err(stop) => Err(stop),
     }
 }

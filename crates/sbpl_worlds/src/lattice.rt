@@ -5,15 +5,15 @@ ghost use Rattle.sbpl_promises.specs.sbpl_cost.World.{IsWorld};
 ghost use Rattle.sbpl_promises.specs.sbpl_sweep.Swept.{AreSweepsOf};
 ghost use Rattle.sbpl_promises.specs.sbpl_sweep.Widths.{NoneTooWide};
 ghost use Rattle.sbpl_promises.specs.sbpl_lists.Messages.{IsPlainMessage};
-ghost use Rattle.sbpl_promises.specs.Explained.{ExplainsCourse, ExplainsLattice};
+ghost use Rattle.sbpl_promises.specs.Explained.{ExplainsUpdates, ExplainsLattice};
 ghost use Rattle.sbpl_promises.specs.Causes.{AreRead, EarlyStopsFor, IsDearStop, IsWideStop, LatticeStopsFor, ReadsWorld};
 ghost use Rattle.sbpl_promises.specs.Causes.{lattice_files};
 ghost use Rattle.sbpl_promises.specs.Writing.{ReadsOnly};
 
 use crate::files::{read_change_file, read_environment, read_primitives};
 use sbpl_promises::{
-    Course, Desk, Lattice, LatticeFault, Map, Message, Name, NoMemory, Prims, Refusal, Sources,
-    Stop, SweepFault, Sweeps, plain_message,
+    Desk, JobStop, Lattice, LatticeFault, Map, Message, Name, NoMemory, Prims, Refusal, Sources,
+    SweepFault, Sweeps, Updates, plain_message,
 };
 use std::alloc::Global;
 
@@ -28,7 +28,7 @@ fn size_message(alloc: Global, name: &str) -> Result<Message, NoMemory>
 }
 
 /// The sweeps of the primitives of these files for the robot's radius.
-fn make_sweeps(alloc: Global, from: &Sources, prims: &Prims) -> Result<Sweeps, Stop>
+fn make_sweeps(alloc: Global, from: &Sources, prims: &Prims) -> Result<Sweeps, JobStop>
     requires radius { from.now.radius ≤ 10 ^ 12 }
     ensures made { IfOk result (AreSweepsOf prims.now from.now.radius) }
     ensures narrow { IfOk result (λ _. NoneTooWide prims.now from.now.radius) }
@@ -38,24 +38,28 @@ fn make_sweeps(alloc: Global, from: &Sources, prims: &Prims) -> Result<Sweeps, S
         Ok(sweeps) => Ok(sweeps),
         Err(SweepFault::TooWide(place)) => {
             let message = size_message(alloc, from.prims.as_str())?;
-            Err(Stop::Refused(Refusal::TooWide(place), message))
+            Err(JobStop::Refused(Refusal::TooWide(place), message))
         }
-        Err(SweepFault::NoMemory) => Err(Stop::NoMemory),
+        Err(SweepFault::NoMemory) => Err(JobStop::NoMemory),
     }
 }
 
 /// Why files whose primitive at this place costs too much stand for no lattice, or that memory ran out.
-fn dear_stop(alloc: Global, from: &Sources, place: u32) -> Stop
+fn dear_stop(alloc: Global, from: &Sources, place: u32) -> JobStop
     ensures stop { IsDearStop from.now.prims place result }
 {
     match size_message(alloc, from.prims.as_str()) {
-        Ok(message) => Stop::Refused(Refusal::TooDear(place), message),
-        Err(NoMemory) => Stop::NoMemory,
+        Ok(message) => JobStop::Refused(Refusal::TooDear(place), message),
+        Err(NoMemory) => JobStop::NoMemory,
     }
 }
 
 /// The lattice of the environment file and the primitive file, for a robot of the radius that is given.
-pub fn read_lattice<D: Desk>(alloc: Global, from: &Sources, desk: &mut D) -> Result<Lattice, Stop>
+pub fn read_lattice<D: Desk>(
+    alloc: Global,
+    from: &Sources,
+    desk: &mut D,
+) -> Result<Lattice, JobStop>
     requires range { from.now.radius ≤ 10 ^ 12 }
     ensures says { IfOk result (ReadsWorld (D.state desk.old).held from.now) }
     ensures kept { IfOk result IsWorld }
@@ -70,27 +74,27 @@ pub fn read_lattice<D: Desk>(alloc: Global, from: &Sources, desk: &mut D) -> Res
     match Lattice::new(alloc, &env, prims, sweeps, map) {
         Ok(lattice) => Ok(lattice),
         Err(LatticeFault::TooDear(place)) => Err(dear_stop(alloc, from, place)),
-        Err(LatticeFault::NoMemory) => Err(Stop::NoMemory),
+        Err(LatticeFault::NoMemory) => Err(JobStop::NoMemory),
     }
 }
 
-/// The lattice of a job's files, and the course of its change file.
-pub fn read_course<D: Desk>(
+/// The lattice of a job's files, and the map updates of its change file.
+pub fn read_updates<D: Desk>(
     alloc: Global,
     from: &Sources,
     changes: &Option<Name>,
     moving: bool,
     desk: &mut D,
-) -> Result<(Lattice, Course), Stop>
+) -> Result<(Lattice, Updates), JobStop>
     requires range { from.now.radius ≤ 10 ^ 12 }
-    ensures course { IfOk result (λ x. AreRead (D.state desk.old).held (lattice_files from.now moving) changes.now x.0 x.1) }
+    ensures updates { IfOk result (λ x. AreRead (D.state desk.old).held (lattice_files from.now moving) changes.now x.0 x.1) }
     ensures stop { IfErr result (EarlyStopsFor (D.state desk.old) (D.state desk.new) (lattice_files from.now moving) changes.now) }
-    ensures explained { IfErr result (ExplainsCourse (D.state desk.old).held from.now changes.now) }
+    ensures explained { IfErr result (ExplainsUpdates (D.state desk.old).held from.now changes.now) }
     ensures frame { ReadsOnly (D.state desk.old) (D.state desk.new) }
 {
     let lattice = read_lattice(alloc, from, desk)?;
     match read_change_file(alloc, changes, moving, &lattice, desk) {
-        Ok(course) => Ok((lattice, course)),
+        Ok(updates) => Ok((lattice, updates)),
         Err(stop) => {
             // Let go by a call: the drop of each field here would make the proof long.
             drop(lattice);

@@ -1,21 +1,21 @@
-//! What a job plans on: the lattice or the grid that files stand for, with the course of a change file, or a lattice that is drawn.
+//! What a job plans on: the lattice or the grid that files stand for, with the map updates of a change file, or a lattice that is drawn.
 #![tactic(auto)]
 
 mod cells;
-mod course;
 mod drawn;
 mod files;
 mod grid;
 mod lattice;
 mod poses;
 mod reversed;
+mod updates;
 mod workspace;
 
-pub use course::place_in;
 pub use drawn::draw;
 pub use files::read_file;
-pub use grid::read_grid_course;
-pub use lattice::{read_course, read_lattice};
+pub use grid::read_grid_updates;
+pub use lattice::{read_lattice, read_updates};
+pub use updates::place_in;
 pub use workspace::Workspace;
 
 // Of `sbpl_graph`.
@@ -88,9 +88,9 @@ pub use sbpl_promises::{
 
 // Of `sbpl_report`.
 pub use sbpl_promises::{
-    Input, PathRecord, PlanRecord, Raised, Refusal, Steps, Stop, Traced, demo_line, fault_line,
+    Input, JobStop, PathRecord, PlanRecord, Raised, Refusal, Steps, Traced, demo_line, fault_line,
     flaw_line, holds_line, labels_of, listing_at, refusal_line, traced_passes,
 };
 
 // Of `sbpl_promises`.
-pub use sbpl_promises::{Course, SectionStop, causes_stand};
+pub use sbpl_promises::{SectionStop, Updates, causes_stand};

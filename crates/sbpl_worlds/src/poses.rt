@@ -2,18 +2,18 @@
 
 use crate::workspace::Workspace;
 use sbpl_promises::{
-    Best, FoundPath, Graph, Lattice, NoMemory, Outcome, PathStep, Place, Spot, Terrain,
+    Best, FoundPath, Graph, Lattice, NoMemory, Outcome, PathStep, Place, ReportPose, Terrain,
     lattice_has_its_arcs, lattice_tails_are_in_order, place_at,
 };
 use std::alloc::Global;
 
 impl Workspace for Lattice {
     ghost use Rattle.std.proofs.Common.{refl};
-    ghost use Rattle.sbpl_promises.specs.LatticeSite.{lattice_wording};
+    ghost use Rattle.sbpl_promises.specs.LatticeSite.{lattice_reporting};
 
     type Best = Best;
 
-    ghost wording = { lattice_wording };
+    ghost reporting = { lattice_reporting };
 
     fn ends(&self) -> (u32, u32) {
         let env = self.env();
@@ -28,15 +28,15 @@ impl Workspace for Lattice {
         (start, goal)
     }
 
-    fn spot(&self, state: u32) -> Spot {
-        Spot::Pose(self.place_of(state))
+    fn report_pose(&self, state: u32) -> ReportPose {
+        ReportPose::Pose(self.place_of(state))
     }
 
     fn step(&self, from: u32, arc: u32) -> (u32, PathStep) {
         let id = self.prim_id(self.prim_of(from, arc));
         let head = self.head(from, arc).unwrap();
-        let spot = Spot::Pose(self.place_of(head));
-        (head, PathStep { id, spot })
+        let report_pose = ReportPose::Pose(self.place_of(head));
+        (head, PathStep { id, report_pose })
     }
 
     fn start_at(&self, place: Option<Place>, start: u32) -> u32 {

@@ -7,8 +7,8 @@ ghost use Rattle.sbpl_promises.specs.sbpl_graph.Path.{IsFreePath};
 
 use crate::workspace::Workspace;
 use sbpl_promises::{
-    Arcs, FoundPath, FromStart, Graph, Lattice, NoMemory, Outcome, PathStep, Place, Reversed, Spot,
-    Terrain, paths_turn_round, turned_round,
+    Arcs, FoundPath, FromStart, Graph, Lattice, NoMemory, Outcome, PathStep, Place, ReportPose,
+    Reversed, Terrain, paths_turn_round, turned_round,
 };
 use std::alloc::Global;
 
@@ -38,11 +38,11 @@ fn turn_path(
 impl Workspace for Reversed {
     ghost use Rattle.std.specs.Prelude.{true};
     ghost use Rattle.std.proofs.Common.{refl};
-    ghost use Rattle.sbpl_promises.specs.LatticeSite.{lattice_wording};
+    ghost use Rattle.sbpl_promises.specs.LatticeSite.{lattice_reporting};
 
     type Best = FromStart;
 
-    ghost wording = { record lattice_wording { back = true } };
+    ghost reporting = { record lattice_reporting { back = true } };
 
     fn ends(&self) -> (u32, u32) {
         self.lattice().ends()
@@ -52,8 +52,8 @@ impl Workspace for Reversed {
         (goal, start)
     }
 
-    fn spot(&self, state: u32) -> Spot {
-        self.lattice().spot(state)
+    fn report_pose(&self, state: u32) -> ReportPose {
+        self.lattice().report_pose(state)
     }
 
     fn step(&self, from: u32, arc: u32) -> (u32, PathStep) {

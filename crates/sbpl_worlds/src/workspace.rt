@@ -5,10 +5,12 @@ ghost use Rattle.sbpl_promises.specs.sbpl_map.CellMap.{CellMap};
 ghost use Rattle.sbpl_promises.specs.sbpl_map.ChangeText.{IsPlaceOnMap};
 ghost use Rattle.sbpl_worlds.specs.Moves.{state_or};
 ghost use Rattle.sbpl_promises.specs.Headline.{IsTurned};
-ghost use Rattle.sbpl_promises.specs.Sites.{Leads, WordPlacesAlike, Wording, from_of, to_of};
+ghost use Rattle.sbpl_promises.specs.Sites.{Leads, WordPlacesAlike, Reporting, from_of, to_of};
 ghost use Rattle.sbpl_promises.specs.sbpl_plan.Outcomes.{IsTrueOutcome};
 
-use sbpl_promises::{FoundPath, Heuristic, NoMemory, Outcome, PathStep, Place, Spot, Terrain};
+use sbpl_promises::{
+    FoundPath, Heuristic, NoMemory, Outcome, PathStep, Place, ReportPose, Terrain,
+};
 use std::alloc::Global;
 
 /// What a job plans on: a graph over a map, which is made of the job's files. Plans are told of a graph whose states and
@@ -18,39 +20,39 @@ pub trait Workspace: Terrain {
     type Best: Heuristic<Self>;
 
     /// How plans on it are worded.
-    ghost wording: { Wording Self };
+    ghost reporting: { Reporting Self };
 
     /// The states between which the environment asks for plans: its start and its end.
     fn ends(&self) -> (u32, u32)
-        ensures start { wording.starts self.now result.0 }
-        ensures goal { wording.ends self.now result.1 }
-        ensures start_inside { result.0 < (wording.told self.now).states }
-        ensures goal_inside { result.1 < (wording.told self.now).states };
+        ensures start { reporting.starts self.now result.0 }
+        ensures goal { reporting.ends self.now result.1 }
+        ensures start_inside { result.0 < (reporting.told self.now).states }
+        ensures goal_inside { result.1 < (reporting.told self.now).states };
 
     /// The state from which the search of a plan from `start` to `goal` goes, and the state to which it goes.
     fn way(start: u32, goal: u32) -> (u32, u32)
-        ensures from { result.0 ≡ from_of wording.back start goal }
-        ensures to { result.1 ≡ to_of wording.back start goal };
+        ensures from { result.0 ≡ from_of reporting.back start goal }
+        ensures to { result.1 ≡ to_of reporting.back start goal };
 
     /// Where a state is.
-    fn spot(&self, state: u32) -> Spot
-        requires state { state < (wording.told self.now).states }
-        ensures spot { result ≡ wording.spot self.now state };
+    fn report_pose(&self, state: u32) -> ReportPose
+        requires state { state < (reporting.told self.now).states }
+        ensures report_pose { result ≡ reporting.report_pose self.now state };
 
     /// The state that an arc leads to, and the step that it is.
     fn step(&self, from: u32, arc: u32) -> (u32, PathStep)
-        requires state { from < (wording.told self.now).states }
-        requires number { arc < (wording.told self.now).fan from }
-        requires head { IsSome ((wording.told self.now).head from arc) }
-        ensures head { (wording.told self.now).head from arc ≡ Some result.0 }
-        ensures step { wording.step self.now from arc result.0 result.1 };
+        requires state { from < (reporting.told self.now).states }
+        requires number { arc < (reporting.told self.now).fan from }
+        requires head { IsSome ((reporting.told self.now).head from arc) }
+        ensures head { (reporting.told self.now).head from arc ≡ Some result.0 }
+        ensures step { reporting.step self.now from arc result.0 result.1 };
 
     /// The state of a place that a change file gives, or `start` where it gives none.
     fn start_at(&self, place: Option<Place>, start: u32) -> u32
-        requires place { IsPlaceOnMap (Self.cells.map self.now) (wording.headings self.now) place }
-        requires start { start < (wording.told self.now).states }
-        ensures state { result ≡ state_or wording self.now place start }
-        ensures inside { result < (wording.told self.now).states };
+        requires place { IsPlaceOnMap (Self.cells.map self.now) (reporting.headings self.now) place }
+        requires start { start < (reporting.told self.now).states }
+        ensures state { result ≡ state_or reporting self.now place start }
+        ensures inside { result < (reporting.told self.now).states };
 
     /// The result of a plan from `start` to `goal`, as it is told, of what a search found. It takes memory only where a
     /// path is turned round.
@@ -61,20 +63,20 @@ pub trait Workspace: Terrain {
         goal: u32,
         found: Outcome<FoundPath>,
     ) -> Result<Outcome<FoundPath>, NoMemory>
-        requires start { start < (wording.told self.now).states }
-        requires goal { goal < (wording.told self.now).states }
-        requires so { IsTrueOutcome (Self.network self.now) (from_of wording.back start goal)
-            (to_of wording.back start goal) found }
-        ensures so { IfOk result (IsTrueOutcome (wording.told self.now) start goal) }
-        ensures turned { IfOk result (IsTurned (Leads wording.back (wording.told self.now) start goal) found) };
+        requires start { start < (reporting.told self.now).states }
+        requires goal { goal < (reporting.told self.now).states }
+        requires so { IsTrueOutcome (Self.network self.now) (from_of reporting.back start goal)
+            (to_of reporting.back start goal) found }
+        ensures so { IfOk result (IsTrueOutcome (reporting.told self.now) start goal) }
+        ensures turned { IfOk result (IsTurned (Leads reporting.back (reporting.told self.now) start goal) found) };
 
     /// The graph has just the arcs that the files make. This does nothing when it runs.
     fn has_its_arcs()
-        ensures law { (w : Self) → Self.cells.is_made w → wording.arcs (wording.told w) w };
+        ensures law { (w : Self) → Self.cells.is_made w → reporting.arcs (reporting.told w) w };
 
     /// The graph that is searched has the states of the one whose paths are told.
-    ghost same_states: { (w : Self) → (wording.told w).states ≡ (Self.network w).states };
+    ghost same_states: { (w : Self) → (reporting.told w).states ≡ (Self.network w).states };
 
     /// Places are worded alike on each map.
-    ghost places_stay: { (w : Self) (m : CellMap) → WordPlacesAlike wording w (Self.cells.over w m) };
+    ghost places_stay: { (w : Self) (m : CellMap) → WordPlacesAlike reporting w (Self.cells.over w m) };
 }

@@ -7,8 +7,8 @@ use Rattle.sbpl_checks.proofs.text_check.check_plan.Goals as goal
 pub check_next-requires : goal.check_next-requires
 check_next-requires g c =
     let w = c.args.world.now in
-    let back = g.W.Workspace.wording.back in
-    let told = (g.W.Workspace.wording.told w).states in
+    let back = g.W.Workspace.reporting.back in
+    let told = (g.W.Workspace.reporting.told w).states in
     let as_many = g.met.W.Workspace.same_states w in
     let n = g.W.Graph.network w in
     record {

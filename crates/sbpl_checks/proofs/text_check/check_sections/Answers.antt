@@ -15,45 +15,45 @@ use Rattle.sbpl_checks.proofs.text_check.check_sections.Goals.{After-batches-las
 
 pub loop-k-init : goal.loop-k-init
 loop-k-init g c =
-    none_checked (site_of g.W.Graph.network g.W.Terrain.cells g.W.Best.Heuristic.says g.W.Workspace.wording)
+    none_checked (site_of g.W.Graph.network g.W.Terrain.cells g.W.Best.Heuristic.says g.W.Workspace.reporting)
     c.is_terrain.ensures.law c.requires.made
     (c.writes_lead_to_the_next_map.ensures.first _ _) c.requires.kept c.requires.start
 
 -- the map now has as many states as the first
 pub check_plan-requires-clause-goal : goal.check_plan-requires-clause-goal
 check_plan-requires-clause-goal g c =
-    subst (λ (n : ℕ). c.args.goal < n) (same_told_states g.W.Graph.network g.W.Workspace.wording.told g.W.Terrain.cells
+    subst (λ (n : ℕ). c.args.goal < n) (same_told_states g.W.Graph.network g.W.Workspace.reporting.told g.W.Terrain.cells
     g.met.W.Workspace.same_states c.is_terrain.ensures.law _ _
     c.requires.kept c.loop-k.invariant.kept c.loop-k.invariant.other_parts) c.requires.goal
 
 pub returns-in-Err-clause-ends : goal.returns-in-Err-clause-ends
 returns-in-Err-clause-ends g c =
     let so = c.loop-k.invariant in
-    let course = c.args.course.now in
+    let updates = c.args.updates.now in
     let k = c.loop-k.k in
-    let whole : k + (length course.batches - k) ≡ length course.batches =
+    let whole : k + (length updates.batches - k) ≡ length updates.batches =
     (let test = c.loop-k-test.true in let count = c.batches-k-end.ensures.value in omega arith) in
-    so.leads (length course.batches - k) whole _ c.in-Err.ending
+    so.leads (length updates.batches - k) whole _ c.in-Err.ending
     (c.in-Err.ensures.ends (case_of (site_of g.W.Graph.network g.W.Terrain.cells g.W.Best.Heuristic.says
-    g.W.Workspace.wording) c.args.world.now course c.args.start c.args.goal)
-    (length course.batches - k) (plan_in so))
+    g.W.Workspace.reporting) c.args.world.now updates c.args.start c.args.goal)
+    (length updates.batches - k) (plan_in so))
 
 pub write_batch-requires : goal.write_batch-requires
 write_batch-requires g c = record {
   on_map =
       batch_on_map (g.W.Terrain.cells.map c.args.world.now) (g.W.Terrain.cells.map c.loop-k.world)
-      c.args.course.now.batches c.loop-k.k _ c.requires.course.1.on_map c.batch.ensures.writes
+      c.args.updates.now.batches c.loop-k.k _ c.requires.updates.1.on_map c.batch.ensures.writes
       c.loop-k.invariant.map_after.width c.loop-k.invariant.map_after.height;
 }
 
 -- the map after the batch
 after_batch : (g : _) (c : After-write_batch g)
-    → IsMapAfter (g.W.Terrain.cells.map c.args.world.now) c.args.course.now.batches (c.loop-k.k + 1)
+    → IsMapAfter (g.W.Terrain.cells.map c.args.world.now) c.args.updates.now.batches (c.loop-k.k + 1)
     (g.W.Terrain.cells.map c.write_batch.new.world)
 after_batch g c =
     let cells = g.W.Terrain.cells in
     c.writes_lead_to_the_next_map.ensures.next (cells.map c.args.world.now) (cells.map c.loop-k.world)
-    (cells.map c.write_batch.new.world) c.args.course.now.batches c.loop-k.k _ c.loop-k.invariant.map_after
+    (cells.map c.write_batch.new.world) c.args.updates.now.batches c.loop-k.k _ c.loop-k.invariant.map_after
     c.batch.ensures.writes
     c.write_batch.ensures.written
 
@@ -67,16 +67,16 @@ over_first g c =
     ∙ c.is_terrain.ensures.law.again c.args.world.now (cells.map c.loop-k.world) (cells.map c.write_batch.new.world)
 
 alike_after : (g : _) (c : After-write_batch g)
-    → WordPlacesAlike g.W.Workspace.wording c.args.world.now c.write_batch.new.world
+    → WordPlacesAlike g.W.Workspace.reporting c.args.world.now c.write_batch.new.world
 alike_after g c =
-    alike_over (site_of g.W.Graph.network g.W.Terrain.cells g.W.Best.Heuristic.says g.W.Workspace.wording)
+    alike_over (site_of g.W.Graph.network g.W.Terrain.cells g.W.Best.Heuristic.says g.W.Workspace.reporting)
     g.met.W.Workspace.places_stay c.args.world.now c.write_batch.new.world (over_first g c)
 
 -- before the batch the guide was made for the world that the present one is on the old map
 made_before : (g : _) (c : After-write_batch g)
     → g.W.Best.Heuristic.is_made_for c.loop-k.guide
     (g.W.Terrain.cells.over c.write_batch.new.world (g.W.Terrain.cells.map c.loop-k.world))
-    (to_of g.W.Workspace.wording.back c.loop-k.start c.args.goal)
+    (to_of g.W.Workspace.reporting.back c.loop-k.start c.args.goal)
 made_before g c =
     let cells = g.W.Terrain.cells in
     let old = c.loop-k.world in
@@ -85,13 +85,13 @@ made_before g c =
     ap (λ v. cells.over v (cells.map old)) c.write_batch.ensures.others
     ∙ law.again old (cells.map c.write_batch.new.world) (cells.map old) ∙ law.present old in
     subst (λ v. g.W.Best.Heuristic.is_made_for c.loop-k.guide v
-    (to_of g.W.Workspace.wording.back c.loop-k.start c.args.goal)) (sym back) c.loop-k.invariant.made
+    (to_of g.W.Workspace.reporting.back c.loop-k.start c.args.goal)) (sym back) c.loop-k.invariant.made
 
 pub rebuild-requires : goal.rebuild-requires
 rebuild-requires g c = record {
   made = (
     g.W.Terrain.cells.map c.loop-k.world,
-    to_of g.W.Workspace.wording.back c.loop-k.start c.args.goal,
+    to_of g.W.Workspace.reporting.back c.loop-k.start c.args.goal,
     made_before g (goal.at.rebuild-requires g c).After-write_batch,
   );
 }
@@ -101,7 +101,7 @@ pub aim-requires-clause-made : goal.aim-requires-clause-made
 aim-requires-clause-made g c =
     subst (λ (t : ℕ). g.W.Best.Heuristic.is_made_for c.rebuild.new.self c.write_batch.new.world t)
     (sym c.way-from.ensures.to) (c.rebuild.ensures.made (g.W.Terrain.cells.map c.loop-k.world)
-    (to_of g.W.Workspace.wording.back c.loop-k.start c.args.goal)
+    (to_of g.W.Workspace.reporting.back c.loop-k.start c.args.goal)
     (made_before g (goal.at.aim-requires-clause-made g c).After-write_batch))
 
 pub start_at-start-requires-clause-place : goal.start_at-start-requires-clause-place
@@ -110,19 +110,19 @@ start_at-start-requires-clause-place g c =
     let cells = g.W.Terrain.cells in
     let w = c.args.world.now in
     let now = c.write_batch.new.world in
-    let moves = c.args.course.now.moves in
+    let moves = c.args.updates.now.moves in
     let next = after_batch g at in
-    let here : c.loop-k.k < length c.args.course.now.batches =
+    let here : c.loop-k.k < length c.args.updates.now.batches =
     (let test = c.loop-k-test.true in let count = c.batches-k-end.ensures.value in omega arith) in
     subst (λ (count : ℕ). IsPlaceOnMap (cells.map now) count c.place_in.result) (sym (alike_after g at).headings)
-    (subst (λ (o : Option Place). IsPlaceOnMap (cells.map now) (g.W.Workspace.wording.headings w) o)
+    (subst (λ (o : Option Place). IsPlaceOnMap (cells.map now) (g.W.Workspace.reporting.headings w) o)
     (sym c.place_in.ensures.place)
-    (move_on_map (site_of g.W.Graph.network g.W.Terrain.cells g.W.Best.Heuristic.says g.W.Workspace.wording) w
-    (cells.map now) c.args.course.now.batches moves c.loop-k.k c.requires.course.1.moves here next.width next.height))
+    (move_on_map (site_of g.W.Graph.network g.W.Terrain.cells g.W.Best.Heuristic.says g.W.Workspace.reporting) w
+    (cells.map now) c.args.updates.now.batches moves c.loop-k.k c.requires.updates.1.moves here next.width next.height))
 
 pub start_at-start-requires-clause-start : goal.start_at-start-requires-clause-start
 start_at-start-requires-clause-start g c =
-    subst (λ (n : ℕ). c.loop-k.start < n) (same_told_states g.W.Graph.network g.W.Workspace.wording.told g.W.Terrain.cells
+    subst (λ (n : ℕ). c.loop-k.start < n) (same_told_states g.W.Graph.network g.W.Workspace.reporting.told g.W.Terrain.cells
     g.met.W.Workspace.same_states c.is_terrain.ensures.law _ _
     c.loop-k.invariant.kept c.write_batch.ensures.kept c.write_batch.ensures.others) c.loop-k.invariant.state
 
@@ -130,12 +130,12 @@ start_at-start-requires-clause-start g c =
 pub returns-in-Err-aim-clause-ends : goal.returns-in-Err-aim-clause-ends
 returns-in-Err-aim-clause-ends g c =
     let so = c.loop-k.invariant in
-    let course = c.args.course.now in
+    let updates = c.args.updates.now in
     let k = c.loop-k.k in
-    let on : Site _ = (site_of g.W.Graph.network g.W.Terrain.cells g.W.Best.Heuristic.says g.W.Workspace.wording) in
-    let case : Case on = case_of on c.args.world.now course c.args.start c.args.goal in
-    let left : ℕ = length course.batches - k in
-    let whole : k + left ≡ length course.batches =
+    let on : Site _ = (site_of g.W.Graph.network g.W.Terrain.cells g.W.Best.Heuristic.says g.W.Workspace.reporting) in
+    let case : Case on = case_of on c.args.world.now updates c.args.start c.args.goal in
+    let left : ℕ = length updates.batches - k in
+    let whole : k + left ≡ length updates.batches =
     (let test = c.loop-k-test.true in let count = c.batches-k-end.ensures.value in omega arith) in
     so.leads left whole _ c.plain.result
     (goes_on case c.args.labels.now c.plain.result k left (c.in-Ok.ensures.holds case (plan_in so))
@@ -148,12 +148,12 @@ loop-k-preserved g c =
     let so = c.loop-k.invariant in
     let w = c.args.world.now in
     let now = c.write_batch.new.world in
-    let course = c.args.course.now in
-    let on : Site _ = (site_of g.W.Graph.network g.W.Terrain.cells g.W.Best.Heuristic.says g.W.Workspace.wording) in
+    let updates = c.args.updates.now in
+    let on : Site _ = (site_of g.W.Graph.network g.W.Terrain.cells g.W.Best.Heuristic.says g.W.Workspace.reporting) in
     let k = c.loop-k.k in
-    let here : k < length course.batches =
+    let here : k < length updates.batches =
     (let test = c.loop-k-test.true in let count = c.batches-k-end.ensures.value in omega arith) in
-    let case : Case on = case_of on w course c.args.start c.args.goal in
+    let case : Case on = case_of on w updates c.args.start c.args.goal in
     record {
       leads = λ more whole after e ends. so.leads (suc more) (let is = whole in omega arith) after e
           (goes_on case c.args.labels.now e k (suc more) (c.in-Ok.ensures.holds case (plan_in so))
@@ -165,8 +165,8 @@ loop-k-preserved g c =
       other_parts = over_first g at;
       kept = c.write_batch.ensures.kept;
       start_is =
-          next_is g.W.Workspace.wording w now c.args.start course.moves k c.loop-k.start c.start_at-start.result
-          c.place_in.result (within on w course.batches course.moves k c.requires.course.1.moves here) so.start_is
+          next_is g.W.Workspace.reporting w now c.args.start updates.moves k c.loop-k.start c.start_at-start.result
+          c.place_in.result (within on w updates.batches updates.moves k c.requires.updates.1.moves here) so.start_is
           (alike_after g at) c.place_in.ensures.place c.start_at-start.ensures.state;
       state = c.start_at-start.ensures.inside;
       inside = c.in-Ok.ensures.inside;
@@ -175,7 +175,7 @@ loop-k-preserved g c =
 
 pub check_plan-requires-2-clause-goal : goal.check_plan-requires-2-clause-goal
 check_plan-requires-2-clause-goal g c =
-    subst (λ (n : ℕ). c.args.goal < n) (same_told_states g.W.Graph.network g.W.Workspace.wording.told g.W.Terrain.cells
+    subst (λ (n : ℕ). c.args.goal < n) (same_told_states g.W.Graph.network g.W.Workspace.reporting.told g.W.Terrain.cells
     g.met.W.Workspace.same_states c.is_terrain.ensures.law _ _
     c.requires.kept c.loop-k.invariant.kept c.loop-k.invariant.other_parts) c.requires.goal
 
@@ -191,10 +191,10 @@ last_is g c =
 pub returns-in-Ok-check_plan-clause-ends : goal.returns-in-Ok-check_plan-clause-ends
 returns-in-Ok-check_plan-clause-ends g c =
     let so = c.loop-k.invariant in
-    let course = c.args.course.now in
-    let on : Site _ = (site_of g.W.Graph.network g.W.Terrain.cells g.W.Best.Heuristic.says g.W.Workspace.wording) in
+    let updates = c.args.updates.now in
+    let on : Site _ = (site_of g.W.Graph.network g.W.Terrain.cells g.W.Best.Heuristic.says g.W.Workspace.reporting) in
     let case : Case on =
-    case_of on c.args.world.now course c.args.start c.args.goal in
+    case_of on c.args.world.now updates c.args.start c.args.goal in
     let last = last_is g (goal.at.returns-in-Ok-check_plan-clause-ends g c).After-batches-last in
     let count = c.batches-last.ensures.value in
     let plan =
@@ -210,10 +210,10 @@ returns-in-Ok-check_plan-clause-ends g c =
 pub returns-in-Err-check_plan-clause-ends : goal.returns-in-Err-check_plan-clause-ends
 returns-in-Err-check_plan-clause-ends g c =
     let so = c.loop-k.invariant in
-    let course = c.args.course.now in
-    let on : Site _ = (site_of g.W.Graph.network g.W.Terrain.cells g.W.Best.Heuristic.says g.W.Workspace.wording) in
+    let updates = c.args.updates.now in
+    let on : Site _ = (site_of g.W.Graph.network g.W.Terrain.cells g.W.Best.Heuristic.says g.W.Workspace.reporting) in
     let case : Case on =
-    case_of on c.args.world.now course c.args.start c.args.goal in
+    case_of on c.args.world.now updates c.args.start c.args.goal in
     let last = last_is g (goal.at.returns-in-Err-check_plan-clause-ends g c).After-batches-last in
     let count = c.batches-last.ensures.value in
     let plan =

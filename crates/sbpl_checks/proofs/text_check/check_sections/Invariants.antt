@@ -4,7 +4,7 @@ use Rattle.sbpl_checks.proofs.text_check.check_sections.Given as goal
 
 abbrev pub invariant-loop-k : goal.invariant-loop-k
 invariant-loop-k g l =
-    IsCheckedTo (site_of g.W.Graph.network g.W.Terrain.cells g.W.Best.Heuristic.says g.W.Workspace.wording)
+    IsCheckedTo (site_of g.W.Graph.network g.W.Terrain.cells g.W.Best.Heuristic.says g.W.Workspace.reporting)
     l.fn.world l.world
-    (g.W.Best.Heuristic.is_made_for l.guide l.world (to_of g.W.Workspace.wording.back l.start l.fn.goal)) l.fn.course
+    (g.W.Best.Heuristic.is_made_for l.guide l.world (to_of g.W.Workspace.reporting.back l.start l.fn.goal)) l.fn.updates
     l.fn.start l.start l.fn.goal l.fn.labels l.k l.at (g.D.Desk.state l.fn.desk) (g.D.Desk.state l.desk)

@@ -5,6 +5,6 @@ use Rattle.sbpl_checks.proofs.text_check.check_text.Goals as goal
 
 pub returns-in-Err-clause-ends : goal.returns-in-Err-clause-ends
 returns-in-Err-clause-ends g c =
-    runs_out (case_of (site_of g.W.Graph.network g.W.Terrain.cells g.W.Best.Heuristic.says g.W.Workspace.wording)
-    c.args.world.now c.args.course.now c.args.start c.args.goal) _ _ _ _ _ _ c.plain.ensures.status
+    runs_out (case_of (site_of g.W.Graph.network g.W.Terrain.cells g.W.Best.Heuristic.says g.W.Workspace.reporting)
+    c.args.world.now c.args.updates.now c.args.start c.args.goal) _ _ _ _ _ _ c.plain.ensures.status
     c.plain.ensures.untold

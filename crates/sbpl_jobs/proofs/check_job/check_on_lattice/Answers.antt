@@ -8,14 +8,14 @@ use Rattle.sbpl_jobs.proofs.check_job.check_on_lattice.Goals as goal
 
 pub returns-then-back-clause-ends : goal.returns-then-back-clause-ends
 returns-then-back-clause-ends g c =
-    subst (λ (b : Bool). EndsSections (case_of (searched_on lattice_site b) c.args.lattice c.args.course.now c.args.start
-    c.args.goal) 0 (suc (length c.args.course.now.batches)) (start_at c.args.labels.now.text.now 0) c.args.labels.now
+    subst (λ (b : Bool). EndsSections (case_of (searched_on lattice_site b) c.args.lattice c.args.updates.now c.args.start
+    c.args.goal) 0 (suc (length c.args.updates.now.batches)) (start_at c.args.labels.now.text.now 0) c.args.labels.now
     (g.D.Desk.state c.args.desk.now) (g.D.Desk.state c.check_text-ending.new.desk) c.check_text-ending.result)
     (sym c.if-back.true) (rw c.new-reversed.ensures.lattice at c.check_text-ending.ensures.ends)
 
 pub returns-clause-ends : goal.returns-clause-ends
 returns-clause-ends g c =
-    subst (λ (b : Bool). EndsSections (case_of (searched_on lattice_site b) c.args.lattice c.args.course.now c.args.start
-    c.args.goal) 0 (suc (length c.args.course.now.batches)) (start_at c.args.labels.now.text.now 0) c.args.labels.now
+    subst (λ (b : Bool). EndsSections (case_of (searched_on lattice_site b) c.args.lattice c.args.updates.now c.args.start
+    c.args.goal) 0 (suc (length c.args.updates.now.batches)) (start_at c.args.labels.now.text.now 0) c.args.labels.now
     (g.D.Desk.state c.args.desk.now) (g.D.Desk.state c.check_text-ending-2.new.desk) c.check_text-ending-2.result)
     (sym c.if-back.false) c.check_text-ending-2.ensures.ends

@@ -11,22 +11,22 @@ use Rattle.sbpl_jobs.proofs.check_job.read_check.Goals as goal
 pub returns-in-Err-clause-stop : goal.returns-in-Err-clause-stop
 returns-in-Err-clause-stop g c = record {
   cause =
-      early_stop (g.D.Desk.state c.args.desk.now) (g.D.Desk.state c.read_course.new.desk) (check_files c.args.job.now)
+      early_stop (g.D.Desk.state c.args.desk.now) (g.D.Desk.state c.read_updates.new.desk) (check_files c.args.job.now)
       c.args.job.now.changes c.args.job.now.labels c.in-Err.stop c.in-Err.ensures.stop;
   told = c.in-Err.ensures.explained (Some c.args.job.now.labels);
 }
 
 pub returns-in-Err-read_file-clause-stop : goal.returns-in-Err-read_file-clause-stop
 returns-in-Err-read_file-clause-stop g c =
-    let course = c.in-Ok.ensures.course in
+    let updates = c.in-Ok.ensures.updates in
     let first = g.D.Desk.state c.args.desk.now in
-    let then = g.D.Desk.state c.read_course.new.desk in
+    let then = g.D.Desk.state c.read_updates.new.desk in
     let last = g.D.Desk.state c.read_file.new.desk in
     let names = input_name (job.Check c.args.job.now) in
     record {
       cause =
           labels_stop first then last (check_files c.args.job.now) c.args.job.now.changes c.args.job.now.labels c.in-Ok.read.0
-          c.in-Ok.read.1 c.in-Err-read_file.stop course.says course.course_is c.in-Ok.ensures.frame
+          c.in-Ok.read.1 c.in-Err-read_file.stop updates.says updates.updates_are c.in-Ok.ensures.frame
           c.in-Err-read_file.ensures.stop;
       told =
           explained_before first.held then.held names c.in-Err-read_file.stop c.in-Ok.ensures.frame.held

@@ -15,19 +15,19 @@ use Rattle.sbpl_jobs.proofs.check_job.run_check.Goals as goal
 pub returns-clause-ends : goal.returns-clause-ends
 returns-clause-ends g c =
     let w = c.in_ok-lattice.lattice in
-    let course = c.in_ok-lattice.course in
+    let updates = c.in_ok-lattice.updates in
     let ends = c.check_on_lattice-ending.ensures.ends in
     let case =
-    case_of (searched_on lattice_site c.args.job.now.back) w course c.ends-start.result.0 c.ends-start.result.1 in
+    case_of (searched_on lattice_site c.args.job.now.back) w updates c.ends-start.result.0 c.ends-start.result.1 in
     let files = check_files c.args.job.now in
     let checked : IsChecked (g.D.Desk.state c.args.desk.now).held files c.args.job.now.changes c.args.job.now.labels
     (to_in case) ends.outcomes ends.end = record {
       world = w;
-      course = course;
-      says = c.in_ok-lattice.ensures.course.says;
-      changes_say = c.in_ok-lattice.ensures.course.course_is;
+      updates = updates;
+      says = c.in_ok-lattice.ensures.updates.says;
+      changes_say = c.in_ok-lattice.ensures.updates.updates_are;
       arcs = c.has_its_arcs.ensures.law;
-      is_world = c.in_ok-lattice.ensures.course.is_world;
+      is_world = c.in_ok-lattice.ensures.updates.is_world;
       text = c.in_ok-lattice.text.items;
       read = c.in_ok-lattice.ensures.text;
       in_world = record {
@@ -37,7 +37,7 @@ returns-clause-ends g c =
         goal_is = c.ends-start.ensures.goal;
         goals_are = refl;
         checked =
-            subst (λ (t : List ℕ). AreChecked IsShownHolding case 0 (suc (length course.batches)) (start_at t 0)
+            subst (λ (t : List ℕ). AreChecked IsShownHolding case 0 (suc (length updates.batches)) (start_at t 0)
             ends.outcomes ends.end) c.as_slice.ensures.value ends.checked;
       };
     } in

@@ -14,16 +14,16 @@ pub returns-clause-ends : goal.returns-clause-ends
 returns-clause-ends g c =
     let e = as_told grid_site false c.requires.range.1 c.make_plans-status.ensures.ends in
     plain_ending _ _ _ _ _ _ _ c.plain.ensures.status c.plain.ensures.untold (plans_end e.all _ e.ends)
-    (ended _ (g.D.Desk.state c.read_grid_course.new.desk) _ _ _ (job.Nav c.args.job.now)
+    (ended _ (g.D.Desk.state c.read_grid_updates.new.desk) _ _ _ (job.Nav c.args.job.now)
     (Planned e.records e.all (entries_of c.args.live.now) e.broken) _ refl
-    (all_shown grid_site c.in_ok-nav.course c.ends-start.result.0 e)
+    (all_shown grid_site c.in_ok-nav.updates c.ends-start.result.0 e)
     (record {
       world = c.in_ok-nav.nav;
-      course = c.in_ok-nav.course;
-      says = c.in_ok-nav.ensures.course.says;
-      changes_say = c.in_ok-nav.ensures.course.course_is;
+      updates = c.in_ok-nav.updates;
+      says = c.in_ok-nav.ensures.updates.says;
+      changes_say = c.in_ok-nav.ensures.updates.updates_are;
       plans =
-          planned grid_site c.in_ok-nav.course c.ends-start.result.0 e c.ends-start.ensures.start
+          planned grid_site c.in_ok-nav.updates c.ends-start.result.0 e c.ends-start.ensures.start
           c.ends-start.ensures.goal;
     })
     c.in_ok-nav.ensures.frame e.ends c.make_plans-status.ensures.frame.others)

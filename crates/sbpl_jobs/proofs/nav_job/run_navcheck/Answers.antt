@@ -14,19 +14,19 @@ use Rattle.sbpl_jobs.proofs.nav_job.run_navcheck.Goals as goal
 pub returns-clause-ends : goal.returns-clause-ends
 returns-clause-ends g c =
     let w = c.in_ok-nav.nav in
-    let course = c.in_ok-nav.course in
+    let updates = c.in_ok-nav.updates in
     let ends = c.check_text-ending.ensures.ends in
     let case =
-    case_of grid_site w course c.ends-start.result.0 c.ends-start.result.1 in
+    case_of grid_site w updates c.ends-start.result.0 c.ends-start.result.1 in
     let files = grid_files c.args.job.now.env in
     let checked : IsChecked (g.D.Desk.state c.args.desk.now).held files c.args.job.now.changes c.args.job.now.labels
     (to_in case) ends.outcomes ends.end = record {
       world = w;
-      course = course;
-      says = c.in_ok-nav.ensures.course.says;
-      changes_say = c.in_ok-nav.ensures.course.course_is;
+      updates = updates;
+      says = c.in_ok-nav.ensures.updates.says;
+      changes_say = c.in_ok-nav.ensures.updates.updates_are;
       arcs = c.has_its_arcs.ensures.law;
-      is_world = c.in_ok-nav.ensures.course.is_world;
+      is_world = c.in_ok-nav.ensures.updates.is_world;
       text = c.in_ok-nav.text.items;
       read = c.in_ok-nav.ensures.text;
       in_world = record {
@@ -36,7 +36,7 @@ returns-clause-ends g c =
         goal_is = c.ends-start.ensures.goal;
         goals_are = refl;
         checked =
-            subst (λ (t : List ℕ). AreChecked IsShownHolding case 0 (suc (length course.batches)) (start_at t 0)
+            subst (λ (t : List ℕ). AreChecked IsShownHolding case 0 (suc (length updates.batches)) (start_at t 0)
             ends.outcomes ends.end) c.as_slice.ensures.value ends.checked;
       };
     } in

@@ -4,42 +4,42 @@ use Rattle.sbpl_checks.specs.sbpl_cost.World.{World}
 use Rattle.sbpl_checks.specs.sbpl_job.Jobs.{may_move}
 use Rattle.sbpl_checks.specs.sbpl_job.declared.job.Job.TheVariants as job
 use Rattle.sbpl_checks.specs.sbpl_job.declared.job.PlanJob.{PlanJob}
-use Rattle.sbpl_checks.specs.sbpl_promises.Asked.{known}
+use Rattle.sbpl_checks.specs.sbpl_promises.Asked.{planner_for}
 use Rattle.sbpl_checks.specs.sbpl_promises.LatticeSite.{lattice_site}
-use Rattle.sbpl_checks.specs.sbpl_promises.Causes.{EarlyStopsFor, ReadsCourse, ReadsWorld, lattice_files, scope_of}
+use Rattle.sbpl_checks.specs.sbpl_promises.Causes.{EarlyStopsFor, ReadsUpdates, ReadsWorld, lattice_files, scope_of}
 use Rattle.sbpl_checks.specs.sbpl_promises.Intents.{Planned, section_writes}
 use Rattle.sbpl_checks.specs.sbpl_promises.Promises.{EndsPlans}
 use Rattle.sbpl_checks.specs.sbpl_promises.Published.{Entry}
 use Rattle.sbpl_checks.specs.sbpl_promises.Sites.{start_after}
 use Rattle.sbpl_checks.specs.sbpl_promises.Writing.{DeskState, IsOutputOf, ReadsOnly, WritesOnly}
-use Rattle.sbpl_checks.specs.sbpl_promises.declared.course.Course.{Course}
+use Rattle.sbpl_checks.specs.sbpl_promises.declared.updates.Updates.{Updates}
 use Rattle.sbpl_checks.specs.sbpl_telling.declared.ending.Ending.{Ending}
 use Rattle.sbpl_checks.proofs.Frames.{writes_after}
 use Rattle.sbpl_jobs.specs.Endings.{IsJobEnding}
 use Rattle.sbpl_jobs.proofs.Ends.{ended}
-use Rattle.sbpl_jobs.proofs.Planned.{all_shown, as_told, course_on, planned}
+use Rattle.sbpl_jobs.proofs.Planned.{all_shown, as_told, updates_on, planned}
 use Rattle.sbpl_jobs.proofs.Telling.{plain_ending, plans_end}
 use Rattle.sbpl_jobs.proofs.plan_job.run_plan.Goals as goal
 
--- the job ends so, where its plans end so on the lattice and the course that were read
-planned_so : (s t u : DeskState) (j : PlanJob) (log shown : List Entry) (w : World) (course : Course)
+-- the job ends so, where its plans end so on the lattice and the updates that were read
+planned_so : (s t u : DeskState) (j : PlanJob) (log shown : List Entry) (w : World) (updates : Updates)
     (start goal status : ℕ) (ending : Ending)
-    → EndsPlans (known lattice_site j.search.planner) (section_writes j.outputs) w course.batches j.search j.outputs
-    (start_after lattice_site.wording w start course.moves) goal 0 log shown None t u status
-    → lattice_site.wording.starts w start → lattice_site.wording.ends w goal
-    → ReadsWorld s.held j.sources w → ReadsCourse s.held j.changes (scope_of (may_move j.search.planner) w) course
+    → EndsPlans (planner_for lattice_site j.search.planner) (section_writes j.outputs) w updates.batches j.search j.outputs
+    (start_after lattice_site.reporting w start updates.moves) goal 0 log shown None t u status
+    → lattice_site.reporting.starts w start → lattice_site.reporting.ends w goal
+    → ReadsWorld s.held j.sources w → ReadsUpdates s.held j.changes (scope_of (may_move j.search.planner) w) updates
     → ReadsOnly s t → WritesOnly (IsOutputOf j.outputs) t u → ending.status ≡ status → ending.why ≡ []
     → IsJobEnding s u log shown (job.Plan j) ending
-planned_so s t u j log shown w course start goal status ending e start_is goal_is says changes_say read wrote is untold =
+planned_so s t u j log shown w updates start goal status ending e start_is goal_is says changes_say read wrote is untold =
     plain_ending s u log shown (job.Plan j) status ending is untold (plans_end e.all status e.ends)
     (ended s t u log shown (job.Plan j) (Planned e.records e.all log e.broken) status refl
-    (all_shown lattice_site course start e)
+    (all_shown lattice_site updates start e)
     (record {
       world = w;
-      course = course;
+      updates = updates;
       says = says;
       changes_say = changes_say;
-      plans = planned lattice_site course start e start_is goal_is;
+      plans = planned lattice_site updates start e start_is goal_is;
     })
     read e.ends wrote.others)
 
@@ -48,10 +48,10 @@ make_plans-status-requires-clause-task g c = λ κs live. rw c.new-world.ensures
   start = c.ends-start.ensures.start_inside;
   goal = c.ends-start.ensures.goal_inside;
   search = c.requires.range.1;
-  course =
-      course_on lattice_site true c.may_move-moving.result true c.in_ok-lattice.lattice c.in_ok-lattice.course
-      c.if-moving.true c.in_ok-lattice.ensures.course.in_world;
-  kept = c.in_ok-lattice.ensures.course.is_world;
+  updates =
+      updates_on lattice_site true c.may_move-moving.result true c.in_ok-lattice.lattice c.in_ok-lattice.updates
+      c.if-moving.true c.in_ok-lattice.ensures.updates.in_world;
+  kept = c.in_ok-lattice.ensures.updates.is_world;
 })
 
 pub make_plans-status-requires-2-clause-task : goal.make_plans-status-requires-2-clause-task
@@ -59,34 +59,34 @@ make_plans-status-requires-2-clause-task g c = λ κs live. record {
   start = c.ends-start.ensures.start_inside;
   goal = c.ends-start.ensures.goal_inside;
   search = c.requires.range.1;
-  course =
-      course_on lattice_site false c.may_move-moving.result false c.in_ok-lattice.lattice c.in_ok-lattice.course
-      c.if-moving.false c.in_ok-lattice.ensures.course.in_world;
-  kept = c.in_ok-lattice.ensures.course.is_world;
+  updates =
+      updates_on lattice_site false c.may_move-moving.result false c.in_ok-lattice.lattice c.in_ok-lattice.updates
+      c.if-moving.false c.in_ok-lattice.ensures.updates.in_world;
+  kept = c.in_ok-lattice.ensures.updates.is_world;
 }
 
 pub returns-then-moving-clause-ends : goal.returns-then-moving-clause-ends
 returns-then-moving-clause-ends g c =
-    planned_so (g.D.Desk.state c.args.desk.now) (g.D.Desk.state c.read_course.new.desk) _ c.args.job.now _ _
-    c.in_ok-lattice.lattice c.in_ok-lattice.course c.ends-start.result.0 c.ends-start.result.1 _ c.plain.result
+    planned_so (g.D.Desk.state c.args.desk.now) (g.D.Desk.state c.read_updates.new.desk) _ c.args.job.now _ _
+    c.in_ok-lattice.lattice c.in_ok-lattice.updates c.ends-start.result.0 c.ends-start.result.1 _ c.plain.result
     (as_told lattice_site true (sym c.may_move-moving.ensures.value ∙ c.if-moving.true)
     (rw c.new-world.ensures.lattice at c.make_plans-status.ensures.ends))
-    c.ends-start.ensures.start c.ends-start.ensures.goal c.in_ok-lattice.ensures.course.says
-    (subst (λ (b : Bool). ReadsCourse (g.D.Desk.state c.args.desk.now).held c.args.job.now.changes
-    (scope_of b c.in_ok-lattice.lattice) c.in_ok-lattice.course)
-    c.may_move-moving.ensures.value c.in_ok-lattice.ensures.course.course_is)
+    c.ends-start.ensures.start c.ends-start.ensures.goal c.in_ok-lattice.ensures.updates.says
+    (subst (λ (b : Bool). ReadsUpdates (g.D.Desk.state c.args.desk.now).held c.args.job.now.changes
+    (scope_of b c.in_ok-lattice.lattice) c.in_ok-lattice.updates)
+    c.may_move-moving.ensures.value c.in_ok-lattice.ensures.updates.updates_are)
     c.in_ok-lattice.ensures.frame c.make_plans-status.ensures.frame c.plain.ensures.status c.plain.ensures.untold
 
 pub returns-clause-ends : goal.returns-clause-ends
 returns-clause-ends g c =
-    planned_so (g.D.Desk.state c.args.desk.now) (g.D.Desk.state c.read_course.new.desk) _ c.args.job.now _ _
-    c.in_ok-lattice.lattice c.in_ok-lattice.course c.ends-start.result.0 c.ends-start.result.1 _ c.plain-2.result
+    planned_so (g.D.Desk.state c.args.desk.now) (g.D.Desk.state c.read_updates.new.desk) _ c.args.job.now _ _
+    c.in_ok-lattice.lattice c.in_ok-lattice.updates c.ends-start.result.0 c.ends-start.result.1 _ c.plain-2.result
     (as_told lattice_site false (sym c.may_move-moving.ensures.value ∙ c.if-moving.false)
     c.make_plans-status-2.ensures.ends)
-    c.ends-start.ensures.start c.ends-start.ensures.goal c.in_ok-lattice.ensures.course.says
-    (subst (λ (b : Bool). ReadsCourse (g.D.Desk.state c.args.desk.now).held c.args.job.now.changes
-    (scope_of b c.in_ok-lattice.lattice) c.in_ok-lattice.course)
-    c.may_move-moving.ensures.value c.in_ok-lattice.ensures.course.course_is)
+    c.ends-start.ensures.start c.ends-start.ensures.goal c.in_ok-lattice.ensures.updates.says
+    (subst (λ (b : Bool). ReadsUpdates (g.D.Desk.state c.args.desk.now).held c.args.job.now.changes
+    (scope_of b c.in_ok-lattice.lattice) c.in_ok-lattice.updates)
+    c.may_move-moving.ensures.value c.in_ok-lattice.ensures.updates.updates_are)
     c.in_ok-lattice.ensures.frame c.make_plans-status-2.ensures.frame c.plain-2.ensures.status c.plain-2.ensures.untold
 
 pub returns-then-moving-clause-frame : goal.returns-then-moving-clause-frame
@@ -100,7 +100,7 @@ returns-in_err-lattice-clause-stop g c =
     let p = err_from_is_err_and c.from_residual.result c.from_residual.ensures.1 in
     rw (p.1, p.2) (record {
       cause =
-          subst (λ (b : Bool). EarlyStopsFor (g.D.Desk.state c.args.desk.now) (g.D.Desk.state c.read_course.new.desk)
+          subst (λ (b : Bool). EarlyStopsFor (g.D.Desk.state c.args.desk.now) (g.D.Desk.state c.read_updates.new.desk)
           (lattice_files c.args.job.now.sources b) c.args.job.now.changes c.in_err-lattice.field-0.0)
           c.may_move-moving.ensures.value c.in_err-lattice.ensures.stop;
       told = c.in_err-lattice.ensures.explained None;

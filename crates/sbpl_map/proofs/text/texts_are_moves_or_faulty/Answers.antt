@@ -1,6 +1,6 @@
 use Rattle.std.proofs.Common.{sym, ap, ◌∙◌}
-use Rattle.sbpl_map.proofs.Texts.{Course, moves_fault_given, moves_given, moves_of, moves_or_fault}
-use Rattle.sbpl_map.proofs.Texts.{same_course, same_batches, same_fault}
+use Rattle.sbpl_map.proofs.Texts.{Updates, moves_fault_given, moves_given, moves_of, moves_or_fault}
+use Rattle.sbpl_map.proofs.Texts.{same_updates, same_batches, same_fault}
 use Rattle.sbpl_map.proofs.text.texts_are_moves_or_faulty.Goals as goal
 
 pub returns-clause-either : goal.returns-clause-either
@@ -14,8 +14,8 @@ pub returns-clause-one_value : goal.returns-clause-one_value
 returns-clause-one_value c m headings text batches others moves more h k =
     let one = moves_given m headings text batches moves h in
     let other = moves_given m headings text others more k in
-    let same = same_course (moves_of m headings text) (batches, moves) (others, more) one other in
-    (ap (λ (x : Course). x.0) same, ap (λ (x : Course). x.1) same)
+    let same = same_updates (moves_of m headings text) (batches, moves) (others, more) one other in
+    (ap (λ (x : Updates). x.0) same, ap (λ (x : Updates). x.1) same)
 
 pub returns-clause-one_fault : goal.returns-clause-one_fault
 returns-clause-one_fault c m headings text f g h k =

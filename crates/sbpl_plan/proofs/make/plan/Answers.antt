@@ -3,7 +3,7 @@ use Rattle.sbpl_search.specs.sbpl_graph.Network.{Network}
 use Rattle.sbpl_search.specs.sbpl_labels.Marks.{Marks}
 use Rattle.sbpl_search.specs.State.{State}
 use Rattle.sbpl_plan.specs.declared.found.Found.{Found}
-use Rattle.sbpl_plan.specs.declared.passes.Pass.{Pass}
+use Rattle.sbpl_plan.specs.declared.passes.PassRecord.{PassRecord}
 use Rattle.sbpl_plan.specs.declared.result.FoundPath.{FoundPath}
 use Rattle.sbpl_plan.specs.declared.result.Outcome.{Outcome}
 use Rattle.sbpl_plan.specs.Asked.{lowered}
@@ -87,7 +87,7 @@ returns-then-is_last-clause-planned g c =
     let q : Inquiry =
     inquiry_of (g.G.Graph.network c.args.inquiry.now.graph.now) (g.H.Guide.distance c.args.inquiry.now.guide.now)
     (g.S.Search.state c.args.search.now).goal c.args.inquiry.now.ask.now in
-    let new : State g.row.S-Note.Denot = g.S.Search.state c.pass.new.self in
+    let new : State g.row.S-Action.Denot = g.S.Search.state c.pass.new.self in
     let spent = c.is_spent-spent.result in
     let found = c.look-found.result in
     let outcome = c.outcome_of-outcome.result in
@@ -101,7 +101,7 @@ returns-then-is_last-clause-planned g c =
     let result : IsResultOf q.network q.guide q.goal new.labels outcome =
     result_so q.network q.guide _ found outcome c.labels-then-is_last.ensures.value c.goal-goal.ensures.value t.found
     (c.outcome_of-outcome.ensures.outcome _ _) in
-    subst (λ (ps : List (Pass g.row.S-Note.Denot)). IsPlanned g.S.Search.meaning q (g.S.Search.state c.args.search.now)
+    subst (λ (ps : List (PassRecord g.row.S-Action.Denot)). IsPlanned g.S.Search.meaning q (g.S.Search.state c.args.search.now)
     new c.args.budget.now c.pass.new.budget (record { passes = ps; spent = spent; outcome = outcome }))
     (sym (c.of.ensures.items ∙ c.in_ok-push.ensures.items))
     (planned_of g.S.Search.meaning here.going_on t _ c.requires.asked last result
@@ -113,7 +113,7 @@ returns-then-is_last-clause-planned g c =
 pub returns-then-is_last-clause-told : goal.returns-then-is_last-clause-told
 returns-then-is_last-clause-told g c =
     let here = c.passes.invariant in
-    subst (λ (ps : List (Pass g.row.S-Note.Denot)). AreTold g.O.Observer.told 0 ps c.args.observer.now
+    subst (λ (ps : List (PassRecord g.row.S-Action.Denot)). AreTold g.O.Observer.told 0 ps c.args.observer.now
     c.tell.new.observer) (sym (c.of.ensures.items ∙ c.in_ok-push.ensures.items))
     (told_more g.O.Observer.told _ _ _ _ _ here.number here.told c.tell.ensures.told)
 
@@ -124,8 +124,8 @@ passes-preserved g c =
     let q : Inquiry =
     inquiry_of (g.G.Graph.network c.args.inquiry.now.graph.now) (g.H.Guide.distance c.args.inquiry.now.guide.now)
     (g.S.Search.state c.args.search.now).goal c.args.inquiry.now.ask.now in
-    let old : State g.row.S-Note.Denot = g.S.Search.state c.args.search.now in
-    let new : State g.row.S-Note.Denot = g.S.Search.state c.pass.new.self in
+    let old : State g.row.S-Action.Denot = g.S.Search.state c.args.search.now in
+    let new : State g.row.S-Action.Denot = g.S.Search.state c.pass.new.self in
     let not =
     λ (last : EndsPlan q c.passes.eps new.labels c.is_spent-spent.result c.look-found.result).
     (let yes = c.is_last.ensures.last.1
@@ -143,7 +143,7 @@ passes-preserved g c =
       going_on =
           subst (λ (e : ℕ). AreGoingOn g.S.Search.meaning q old new c.args.budget.now c.pass.new.budget
           c.push.new.self.items e) (sym is)
-          (subst (λ (ps : List (Pass g.row.S-Note.Denot)). AreGoingOn g.S.Search.meaning q old new c.args.budget.now
+          (subst (λ (ps : List (PassRecord g.row.S-Action.Denot)). AreGoingOn g.S.Search.meaning q old new c.args.budget.now
           c.pass.new.budget ps (lowered q.ask.step c.passes.eps)) (sym c.in_ok-push.ensures.items) on);
       low = omega arith;
       high = omega arith;
@@ -154,7 +154,7 @@ passes-preserved g c =
           let was = here.number in
           rw (c.in_ok-push.ensures.items, length-append c.passes.passes.items _) (omega arith);
       told =
-          subst (λ (ps : List (Pass g.row.S-Note.Denot)).
+          subst (λ (ps : List (PassRecord g.row.S-Action.Denot)).
           AreTold g.O.Observer.told 0 ps c.args.observer.now c.tell.new.observer) (sym c.in_ok-push.ensures.items)
           (told_more g.O.Observer.told _ _ _ _ _ here.number here.told c.tell.ensures.told);
       observed =

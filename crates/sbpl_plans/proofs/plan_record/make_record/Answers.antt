@@ -20,14 +20,14 @@ use Rattle.sbpl_worlds.specs.sbpl_graph.Network.{Network}
 use Rattle.sbpl_worlds.specs.sbpl_search.Meaning.{Meaning}
 use Rattle.sbpl_worlds.specs.sbpl_replan.Replanning.{GoesBetween, IsReady, SessionState, Standing, StaysTheSame, inquiry, standing_of}
 use Rattle.sbpl_worlds.specs.sbpl_report.Traces.{traced_pass}
-use Rattle.sbpl_worlds.specs.sbpl_plan.declared.passes.Pass.{Pass}
+use Rattle.sbpl_worlds.specs.sbpl_plan.declared.passes.PassRecord.{PassRecord}
 use Rattle.sbpl_worlds.specs.sbpl_report.declared.record.TraceLine.{TraceLine}
 use Rattle.sbpl_worlds.specs.sbpl_promises.Published.{Entry, founds, with_paths, with_plan}
 use Rattle.sbpl_plans.proofs.Founds.{broken_by, first_of_all, founds_traced, none_published}
 use Rattle.sbpl_plans.proofs.Founds.{on_err_is, stands_broken, stands_so, expansions_traced}
 use Rattle.sbpl_plans.proofs.Observed.{same_if, shown, stands_same, then_same}
 use Rattle.sbpl_worlds.specs.sbpl_report.declared.record.PlanRecord.{PlanRecord}
-use Rattle.sbpl_worlds.specs.sbpl_promises.Asked.{Known, ask_of, from_by, known_by, to_by}
+use Rattle.sbpl_worlds.specs.sbpl_promises.Asked.{PlannerOn, ask_of, from_by, planner_on, to_by}
 use Rattle.sbpl_worlds.specs.sbpl_promises.Sites.{Leads, Site, from_of, site_of, to_of}
 use Rattle.sbpl_worlds.specs.sbpl_promises.Headline.{Begins, Carried, IsKnownWithin, IsMarked, IsNoneThere, IsSearched, IsToldOf}
 use Rattle.sbpl_worlds.specs.sbpl_promises.Headline.{IsWithinBound, Joins, KeepsPromises, expanded_before}
@@ -58,9 +58,9 @@ in_run before rises (inl all) = inl all
 in_run before rises (inr all) = inr (rises ∙ all)
 
 -- what is known of a plan, and of its record, is that it was searched
-module _ {W : Type 0} (by : Known W) (w : W) (guide : ℕ → ℕ) (start goal : ℕ) (how : SearchJob) (outputs : Outputs)
+module _ {W : Type 0} (by : PlannerOn W) (w : W) (guide : ℕ → ℕ) (start goal : ℕ) (how : SearchJob) (outputs : Outputs)
     (before : Option Carried) (begun final : Marks) (raised : List ℕ) (per_plan run used : ℕ)
-    (planned : Planned by.Note) (section : Option Section) where
+    (planned : Planned by.Action) (section : Option Section) where
   searched_by : (asked : Ask) (wanted : Bool) (plan : ℕ) (r : Result PlanRecord NoMemory)
       → by.on.says w (to_by by start goal) guide
       → Begins by.means by.on w (from_by by start goal) before begun raised
@@ -80,7 +80,7 @@ module _ {W : Type 0} (by : Known W) (w : W) (guide : ℕ → ℕ) (start goal :
       (to_by by start goal) plan final planned.outcome) section
       → IfOk r (λ x. x.plan ≡ plan) → IfOk r (λ x. x.passes ≡ map (traced_pass by.line) planned.passes)
       → IfOk r (λ x. x.expanded ≡ used)
-      → IfOk r (λ x. IsToldOf (Leads by.on.wording.back (by.on.wording.told w) start goal) planned.outcome x.outcome)
+      → IfOk r (λ x. IsToldOf (Leads by.on.reporting.back (by.on.reporting.told w) start goal) planned.outcome x.outcome)
       → IfOk r (λ x. x.labels ≡ section)
       → IfOk r (λ x. x.raised ≡ (if asked.traced then raised else []))
       → IfOk r (λ x. MatchBool planned.spent (x.spent ≡ Some used) (x.spent ≡ None))
@@ -102,7 +102,7 @@ module _ {W : Type 0} (by : Known W) (w : W) (guide : ℕ → ℕ) (start goal :
         begins = begins;
         raises = subst (λ (a : Ask). x.raised ≡ (if a.traced then raised else [])) same raises;
         spent = planned.spent;
-        notes = planned.passes;
+        actions = planned.passes;
         passes =
             subst (λ (a : Ask). ArePasses by.means (inquiry_of (by.on.network w) guide
             (to_by by start goal) a) a.first begun planned.passes final planned.spent) same passes;
@@ -126,16 +126,16 @@ module _ {W : Type 0} (by : Known W) (w : W) (guide : ℕ → ℕ) (start goal :
       }
 
 -- after a plan it goes between the same states
-between_after : {Note : Type 0} (from to : ℕ) (old new : Standing Note)
+between_after : {Action : Type 0} (from to : ℕ) (old new : Standing Action)
     → GoesBetween from to old → StaysTheSame old new → GoesBetween from to new
 between_after from to old new between same =
     record { from_is = same.start ∙ between.from_is; to_is = same.goal ∙ between.to_is }
 
 -- what guides the search, where a plan may begin between these states
-guided : {Note H W : Type 0} {means : Meaning Note} {network : W → Network} (is_made_for : H → W → ℕ → Type 0)
+guided : {Action H W : Type 0} {means : Meaning Action} {network : W → Network} (is_made_for : H → W → ℕ → Type 0)
     (says : W → ℕ → (ℕ → ℕ) → Type 0) (distance : H → ℕ → ℕ)
     → ((h : H) (w : W) (goal : ℕ) → is_made_for h w goal → says w goal (distance h))
-    → (s : SessionState Note H W) (from to : ℕ) → IsReady means network is_made_for s
+    → (s : SessionState Action H W) (from to : ℕ) → IsReady means network is_made_for s
     → GoesBetween from to (standing_of s) → says s.world to (distance s.guide)
 guided is_made_for says distance so s from to ready between =
     subst (λ (t : ℕ). says s.world t (distance s.guide)) between.to_is (so s.guide s.world s.search.goal ready.made)
@@ -144,13 +144,13 @@ pub section_of-requires-clause-goal : goal.section_of-requires-clause-goal
 section_of-requires-clause-goal g c =
     let task = c.args.task.now in
     let w = c.args.session.now.world in
-    let told = (g.W.Workspace.wording.told w).states in
+    let told = (g.W.Workspace.reporting.told w).states in
     let as_many = g.met.W.Workspace.same_states w in
     let there =
-    to_inside g.W.Workspace.wording.back c.args.turn.start task.goal told c.requires.start c.requires.goal in
+    to_inside g.W.Workspace.reporting.back c.args.turn.start task.goal told c.requires.start c.requires.goal in
     let to = c.in_ok-planned.ensures.same.goal ∙ c.requires.set.between.to_is in
     rw c.plan.ensures.world (subst (λ (t : ℕ). t < (g.W.Graph.network w).states) (sym to)
-    (subst (λ (n : ℕ). to_of g.W.Workspace.wording.back c.args.turn.start task.goal < n) as_many there))
+    (subst (λ (n : ℕ). to_of g.W.Workspace.reporting.back c.args.turn.start task.goal < n) as_many there))
 
 pub section_of-requires-clause-found : goal.section_of-requires-clause-found
 section_of-requires-clause-found g c =
@@ -174,7 +174,7 @@ record_of-requires-clause-goal g c = rw (c.world.ensures.value, c.plan.ensures.w
 pub record_of-requires-clause-so : goal.record_of-requires-clause-so
 record_of-requires-clause-so g c =
     let task = c.args.task.now in
-    let back = g.W.Workspace.wording.back in
+    let back = g.W.Workspace.reporting.back in
     let n = g.W.Graph.network c.args.session.now.world in
     let made = c.in_ok-planned.ensures.planned in
     rw (c.world.ensures.value, c.plan.ensures.world)
@@ -186,13 +186,13 @@ record_of-requires-clause-so g c =
 pub returns-clause-searched : goal.returns-clause-searched
 returns-clause-searched g c = λ before goes.
     let task = c.args.task.now in
-    let back = g.W.Workspace.wording.back in
+    let back = g.W.Workspace.reporting.back in
     let w = c.args.session.now.world in
     let n = g.W.Graph.network w in
     let means = g.S.Search.meaning in
-    let by : Known _ =
-    known_by (site_of g.W.Graph.network g.W.Terrain.cells g.W.Best.Heuristic.says g.W.Workspace.wording)
-    means g.S.Note.Traced.line in
+    let by : PlannerOn _ =
+    planner_on (site_of g.W.Graph.network g.W.Terrain.cells g.W.Best.Heuristic.says g.W.Workspace.reporting)
+    means g.S.Action.Traced.line in
     let set = c.requires.set in
     let planned = c.in_ok-planned.planned in
     let made = c.in_ok-planned.ensures.planned in
@@ -247,10 +247,10 @@ unmarked : (spent : Bool) (expanded : ℕ) (x : PlanRecord) → MatchBool spent 
 unmarked true expanded x mark is = cc
 unmarked false expanded x mark is = refl
 
-promises_by : {Note W : Type 0} (on : Site W) (w : W) (start goal asked expanded : ℕ) (planned : Planned Note)
+promises_by : {Action W : Type 0} (on : Site W) (w : W) (start goal asked expanded : ℕ) (planned : Planned Action)
     (r : Result PlanRecord NoMemory) → IfOk r (λ x. Joins on w start goal x.outcome)
-    → IfOk r (λ x. IsWithinBound (on.wording.told w) start goal x.outcome)
-    → IfOk r (λ x. IsNoneThere (on.wording.told w) start goal x.outcome)
+    → IfOk r (λ x. IsWithinBound (on.reporting.told w) start goal x.outcome)
+    → IfOk r (λ x. IsNoneThere (on.reporting.told w) start goal x.outcome)
     → IfOk r (λ x. MatchBool planned.spent (x.spent ≡ Some expanded) (x.spent ≡ None))
     → (planned.spent ≡ false → search.IsConclusive asked planned.outcome)
     → IfOk r (λ x. (a : ℕ) → search.IsConclusive a planned.outcome → IsKnownWithin a x.outcome)
@@ -267,7 +267,7 @@ pub returns-clause-promises : goal.returns-clause-promises
 returns-clause-promises g c =
     let bound = ap (λ (a : Ask). a.bound) c.ask_of-ask.ensures.ask in
     let made = rw (c.world.ensures.value, c.plan.ensures.world) at c.record_of.ensures in
-    promises_by (site_of g.W.Graph.network g.W.Terrain.cells g.W.Best.Heuristic.says g.W.Workspace.wording)
+    promises_by (site_of g.W.Graph.network g.W.Terrain.cells g.W.Best.Heuristic.says g.W.Workspace.reporting)
     c.args.session.now.world c.args.turn.start c.args.task.now.goal _ _ c.in_ok-planned.planned c.record_of.result
     made.joins made.within_the_bound made.none made.marked
     (λ is. subst (λ (b : ℕ). search.IsConclusive b c.in_ok-planned.planned.outcome) bound
@@ -291,13 +291,13 @@ returns-in_err-labels-clause-searched g c =
 
 -- ---- what was published
 
-shown_by : {Note : Type 0} (line : Note → TraceLine) (log shown : List Entry) (plan : ℕ) (ps : List (Pass Note))
+shown_by : {Action : Type 0} (line : Action → TraceLine) (log shown : List Entry) (plan : ℕ) (ps : List (PassRecord Action))
     (x : PlanRecord) → x.plan ≡ plan → x.passes ≡ map (traced_pass line) ps → shown ≡ with_paths log plan 0 (founds ps)
     → shown ≡ with_plan log x
 shown_by line log shown plan ps x number passes is =
     is ∙ sym (λ i. with_paths log (number i) 0 ((ap founds passes ∙ founds_traced line ps) i))
 
-if_shown : {Note E : Type 0} (line : Note → TraceLine) (log shown : List Entry) (plan : ℕ) (ps : List (Pass Note))
+if_shown : {Action E : Type 0} (line : Action → TraceLine) (log shown : List Entry) (plan : ℕ) (ps : List (PassRecord Action))
     (r : Result PlanRecord E) → IfOk r (λ x. x.plan ≡ plan) → IfOk r (λ x. x.passes ≡ map (traced_pass line) ps)
     → shown ≡ with_paths log plan 0 (founds ps) → IfOk r (λ x. shown ≡ with_plan log x)
 if_shown line log shown plan ps (Ok x) number passes is = shown_by line log shown plan ps x number passes is
@@ -305,7 +305,7 @@ if_shown line log shown plan ps (Err e) number passes is = tt
 
 pub returns-clause-shown : goal.returns-clause-shown
 returns-clause-shown g c =
-    if_shown g.S.Note.Traced.line _ _ _ _ c.record_of.result c.record_of.ensures.number c.record_of.ensures.passes
+    if_shown g.S.Action.Traced.line _ _ _ _ c.record_of.result c.record_of.ensures.number c.record_of.ensures.passes
     (c.newest.ensures.published ∙ shown c.args.live.now c.begin.new.self c.plan.new.observer c.args.turn.plan c.begin.ensures.same
     c.begin.ensures.entries c.begin.ensures.plan _ c.in_ok-planned.ensures.told)
 
@@ -316,11 +316,11 @@ returns-in_err-raised-clause-broken g c =
 pub returns-in_err-planned-clause-broken : goal.returns-in_err-planned-clause-broken
 returns-in_err-planned-clause-broken g c = λ before goes.
     let task = c.args.task.now in
-    let back = g.W.Workspace.wording.back in
+    let back = g.W.Workspace.reporting.back in
     let w = c.args.session.now.world in
-    let by : Known _ =
-    known_by (site_of g.W.Graph.network g.W.Terrain.cells g.W.Best.Heuristic.says g.W.Workspace.wording)
-    g.S.Search.meaning g.S.Note.Traced.line in
+    let by : PlannerOn _ =
+    planner_on (site_of g.W.Graph.network g.W.Terrain.cells g.W.Best.Heuristic.says g.W.Workspace.reporting)
+    g.S.Search.meaning g.S.Action.Traced.line in
     let guide = g.W.Best.Guide.distance c.args.session.now.guide in
     let from = from_of back c.args.turn.start task.goal in
     let to = to_of back c.args.turn.start task.goal in
@@ -336,11 +336,11 @@ returns-in_err-planned-clause-broken g c = λ before goes.
 pub returns-in_err-incumbent-clause-broken : goal.returns-in_err-incumbent-clause-broken
 returns-in_err-incumbent-clause-broken g c = λ before goes.
     let task = c.args.task.now in
-    let by : Known _ =
-    known_by (site_of g.W.Graph.network g.W.Terrain.cells g.W.Best.Heuristic.says g.W.Workspace.wording)
-    g.S.Search.meaning g.S.Note.Traced.line in
+    let by : PlannerOn _ =
+    planner_on (site_of g.W.Graph.network g.W.Terrain.cells g.W.Best.Heuristic.says g.W.Workspace.reporting)
+    g.S.Search.meaning g.S.Action.Traced.line in
     let w = c.args.session.now.world in
-    let back = g.W.Workspace.wording.back in
+    let back = g.W.Workspace.reporting.back in
     let guide = g.W.Best.Guide.distance c.args.session.now.guide in
     let from = from_of back c.args.turn.start task.goal in
     let to = to_of back c.args.turn.start task.goal in
@@ -362,11 +362,11 @@ returns-in_err-incumbent-clause-broken g c = λ before goes.
 pub returns-in_err-labels-clause-broken : goal.returns-in_err-labels-clause-broken
 returns-in_err-labels-clause-broken g c = λ before goes.
     let task = c.args.task.now in
-    let by : Known _ =
-    known_by (site_of g.W.Graph.network g.W.Terrain.cells g.W.Best.Heuristic.says g.W.Workspace.wording)
-    g.S.Search.meaning g.S.Note.Traced.line in
+    let by : PlannerOn _ =
+    planner_on (site_of g.W.Graph.network g.W.Terrain.cells g.W.Best.Heuristic.says g.W.Workspace.reporting)
+    g.S.Search.meaning g.S.Action.Traced.line in
     let w = c.args.session.now.world in
-    let back = g.W.Workspace.wording.back in
+    let back = g.W.Workspace.reporting.back in
     let guide = g.W.Best.Guide.distance c.args.session.now.guide in
     let from = from_of back c.args.turn.start task.goal in
     let to = to_of back c.args.turn.start task.goal in
@@ -388,11 +388,11 @@ returns-in_err-labels-clause-broken g c = λ before goes.
 pub returns-clause-broken : goal.returns-clause-broken
 returns-clause-broken g c = λ before goes.
     let task = c.args.task.now in
-    let by : Known _ =
-    known_by (site_of g.W.Graph.network g.W.Terrain.cells g.W.Best.Heuristic.says g.W.Workspace.wording)
-    g.S.Search.meaning g.S.Note.Traced.line in
+    let by : PlannerOn _ =
+    planner_on (site_of g.W.Graph.network g.W.Terrain.cells g.W.Best.Heuristic.says g.W.Workspace.reporting)
+    g.S.Search.meaning g.S.Action.Traced.line in
     let w = c.args.session.now.world in
-    let back = g.W.Workspace.wording.back in
+    let back = g.W.Workspace.reporting.back in
     let guide = g.W.Best.Guide.distance c.args.session.now.guide in
     let from = from_of back c.args.turn.start task.goal in
     let to = to_of back c.args.turn.start task.goal in

@@ -19,17 +19,17 @@ pub step-head-requires : goal.step-head-requires
 step-head-requires g c =
     let split = left_is c.args.arcs.now c.loop-arc.arc-index c.loop-arc-test.true in
     let first =
-    first_arc _ _ _ _ (subst (λ (l : List ℕ). IsPathFrom (g.W.Workspace.wording.told c.args.world.now) c.loop-arc.at l) split
+    first_arc _ _ _ _ (subst (λ (l : List ℕ). IsPathFrom (g.W.Workspace.reporting.told c.args.world.now) c.loop-arc.at l) split
     c.loop-arc.invariant.left) in
     record { state = first.state; number = first.number; head = first.head }
 
 pub loop-arc-preserved : goal.loop-arc-preserved
 loop-arc-preserved g c =
     let w = c.args.world.now in
-    let on : Site _ = site_of g.W.Graph.network g.W.Terrain.cells g.W.Best.Heuristic.says g.W.Workspace.wording in
+    let on : Site _ = site_of g.W.Graph.network g.W.Terrain.cells g.W.Best.Heuristic.says g.W.Workspace.reporting in
     let split = left_is c.args.arcs.now c.loop-arc.arc-index c.loop-arc-test.true in
     let left =
-    subst (λ (l : List ℕ). IsPathFrom (g.W.Workspace.wording.told w) c.loop-arc.at l) split c.loop-arc.invariant.left in
+    subst (λ (l : List ℕ). IsPathFrom (g.W.Workspace.reporting.told w) c.loop-arc.at l) split c.loop-arc.invariant.left in
     let done =
     subst (λ (l : List ℕ). Completes on w c.args.from c.args.arcs.now c.loop-arc.at l c.loop-arc.steps.items) split
     c.loop-arc.invariant.done in
@@ -44,7 +44,7 @@ loop-arc-preserved g c =
 pub returns : goal.returns
 returns g c =
     let w = c.args.world.now in
-    let on : Site _ = site_of g.W.Graph.network g.W.Terrain.cells g.W.Best.Heuristic.says g.W.Workspace.wording in
+    let on : Site _ = site_of g.W.Graph.network g.W.Terrain.cells g.W.Best.Heuristic.says g.W.Workspace.reporting in
     let over = none_left c.args.arcs.now c.loop-arc.arc-index c.loop-arc-test.false in
     let done =
     subst (λ (l : List ℕ). Completes on w c.args.from c.args.arcs.now c.loop-arc.at l c.loop-arc.steps.items) over

@@ -7,7 +7,7 @@ use Rattle.sbpl_plans.proofs.plan_record.steps_of.Given as goal
 -- the arcs that are left are a free path from here, and their steps complete those so far
 abbrev pub invariant-loop-arc : goal.invariant-loop-arc
 invariant-loop-arc g l = record {
-  left : IsPathFrom (g.W.Workspace.wording.told l.world) l.at (drop l.arc-index l.arcs);
-  done : Completes (site_of g.W.Graph.network g.W.Terrain.cells g.W.Best.Heuristic.says g.W.Workspace.wording) l.world
+  left : IsPathFrom (g.W.Workspace.reporting.told l.world) l.at (drop l.arc-index l.arcs);
+  done : Completes (site_of g.W.Graph.network g.W.Terrain.cells g.W.Best.Heuristic.says g.W.Workspace.reporting) l.world
       l.from l.arcs l.at (drop l.arc-index l.arcs) l.steps.items;
 }

@@ -16,9 +16,9 @@ loop-k-init g c = record {
   going =
       rw c.in-Ok.ensures.world (sets_out c.is_terrain.ensures.law
       (c.writes_lead_to_the_next_map.ensures.first (g.W.Terrain.cells.map c.args.world)
-      c.args.task.now.course.now.batches) c.requires.task.kept
-      (sym (start_first g.W.Workspace.wording c.args.world c.args.task.now.start
-      c.args.task.now.course.now.moves)) c.in-Ok.ensures.set c.in-Ok.ensures.begun);
+      c.args.task.now.updates.now.batches) c.requires.task.kept
+      (sym (start_first g.W.Workspace.reporting c.args.world c.args.task.now.start
+      c.args.task.now.updates.now.moves)) c.in-Ok.ensures.set c.in-Ok.ensures.begun);
   ready = c.in-Ok.ensures.ready;
   inside = rw c.in-Ok.ensures.world c.requires.task.start;
   frame = nothing_done _ _;
@@ -29,7 +29,7 @@ loop-k-init g c = record {
 pub make_plan-requires-clause-goal : goal.make_plan-requires-clause-goal
 make_plan-requires-clause-goal g c =
     subst (λ (n : ℕ). c.args.task.now.goal < n)
-    (same_told_states g.W.Graph.network g.W.Workspace.wording.told g.W.Terrain.cells g.met.W.Workspace.same_states
+    (same_told_states g.W.Graph.network g.W.Workspace.reporting.told g.W.Terrain.cells g.met.W.Workspace.same_states
     c.is_terrain.ensures.law _ _ c.requires.task.kept c.loop-k.invariant.going.kept
     c.loop-k.invariant.going.same) c.requires.task.goal
 
@@ -43,7 +43,7 @@ returns-in-Err-make_plan-clause-ends g c =
 
 pub change-requires-clause-on_map : goal.change-requires-clause-on_map
 change-requires-clause-on_map g c =
-    rw c.make_plan.ensures.world (batch_on_map _ _ _ _ _ c.requires.task.course.on_map c.batch.ensures.writes
+    rw c.make_plan.ensures.world (batch_on_map _ _ _ _ _ c.requires.task.updates.on_map c.batch.ensures.writes
     c.loop-k.invariant.going.after.width c.loop-k.invariant.going.after.height)
 
 pub returns-in-Err-change-clause-ends : goal.returns-in-Err-change-clause-ends
@@ -57,7 +57,7 @@ start_at-start-requires-clause-place g c =
     let now = c.change.new.self.world in
     let going = c.loop-k.invariant.going in
     let cells = g.W.Terrain.cells in
-    let on : Site _ = site_of g.W.Graph.network g.W.Terrain.cells g.W.Best.Heuristic.says g.W.Workspace.wording in
+    let on : Site _ = site_of g.W.Graph.network g.W.Terrain.cells g.W.Best.Heuristic.says g.W.Workspace.reporting in
     let others = rw c.make_plan.ensures.world at c.change.ensures.others in
     let written = rw c.make_plan.ensures.world at c.in_default-change.ensures.written in
     let same : now ≡ cells.over w (cells.map now) =
@@ -66,20 +66,20 @@ start_at-start-requires-clause-place g c =
     let alike = alike_over on g.met.W.Workspace.places_stay w now same in
     let next =
     c.writes_lead_to_the_next_map.ensures.next (cells.map w) (cells.map c.loop-k.session.world) (cells.map now)
-    c.args.task.now.course.now.batches c.loop-k.k _ going.after c.batch.ensures.writes written in
-    let here : c.loop-k.k < length c.args.task.now.course.now.batches =
+    c.args.task.now.updates.now.batches c.loop-k.k _ going.after c.batch.ensures.writes written in
+    let here : c.loop-k.k < length c.args.task.now.updates.now.batches =
     (let test = c.loop-k-test.true in let count = c.batches-k-end.ensures.value in omega arith) in
     rw c.world.ensures.value (subst (λ (count : ℕ). IsPlaceOnMap (cells.map now) count c.place_in.result)
     (sym alike.headings) (subst (λ (o : Option Place). IsPlaceOnMap (cells.map now)
-    (g.W.Workspace.wording.headings w) o) (sym c.place_in.ensures.place)
-    (move_on_map on w (cells.map now) c.args.task.now.course.now.batches c.args.task.now.course.now.moves c.loop-k.k
-    c.requires.task.course.moves here next.width next.height)))
+    (g.W.Workspace.reporting.headings w) o) (sym c.place_in.ensures.place)
+    (move_on_map on w (cells.map now) c.args.task.now.updates.now.batches c.args.task.now.updates.now.moves c.loop-k.k
+    c.requires.task.updates.moves here next.width next.height)))
 
 pub start_at-start-requires-clause-start : goal.start_at-start-requires-clause-start
 start_at-start-requires-clause-start g c =
     let others = rw c.make_plan.ensures.world at c.change.ensures.others in
     rw c.world.ensures.value (subst (λ (n : ℕ). c.loop-k.start < n)
-    (same_told_states g.W.Graph.network g.W.Workspace.wording.told
+    (same_told_states g.W.Graph.network g.W.Workspace.reporting.told
     g.W.Terrain.cells g.met.W.Workspace.same_states c.is_terrain.ensures.law _ _
     c.loop-k.invariant.going.kept c.change.ensures.kept others) c.loop-k.invariant.inside)
 
@@ -94,18 +94,18 @@ aim-requires g c =
     let w = c.args.world in
     let now = c.change.new.self.world in
     let cells = g.W.Terrain.cells in
-    let back = g.W.Workspace.wording.back in
+    let back = g.W.Workspace.reporting.back in
     let others = rw c.make_plan.ensures.world at c.change.ensures.others in
     let same : now ≡ cells.over w (cells.map now) =
     others ∙ ap (λ v. cells.over v (cells.map now)) c.loop-k.invariant.going.same
     ∙ c.is_terrain.ensures.law.again w (cells.map c.loop-k.session.world) (cells.map now) in
     let goal_inside =
     subst (λ (n : ℕ). c.args.task.now.goal < n)
-    (same_told_states g.W.Graph.network g.W.Workspace.wording.told cells g.met.W.Workspace.same_states
+    (same_told_states g.W.Graph.network g.W.Workspace.reporting.told cells g.met.W.Workspace.same_states
     c.is_terrain.ensures.law _ _ c.requires.task.kept c.change.ensures.kept same) c.requires.task.goal in
     let inside = rw c.world.ensures.value at c.start_at-start.ensures.inside in
     let there =
-    to_inside back c.start_at-start.result c.args.task.now.goal (g.W.Workspace.wording.told now).states
+    to_inside back c.start_at-start.result c.args.task.now.goal (g.W.Workspace.reporting.told now).states
     inside goal_inside in
     record {
       ready = c.in_default-change.ensures.ready;
@@ -118,12 +118,12 @@ aim-requires g c =
 pub loop-k-preserved : goal.loop-k-preserved
 loop-k-preserved g c =
     let w = c.args.world in
-    let course = c.args.task.now.course.now in
+    let updates = c.args.task.now.updates.now in
     let now = c.change.new.self.world in
     let k = c.loop-k.k in
     let going = c.loop-k.invariant.going in
     let cells = g.W.Terrain.cells in
-    let on : Site _ = site_of g.W.Graph.network g.W.Terrain.cells g.W.Best.Heuristic.says g.W.Workspace.wording in
+    let on : Site _ = site_of g.W.Graph.network g.W.Terrain.cells g.W.Best.Heuristic.says g.W.Workspace.reporting in
     let others = rw c.make_plan.ensures.world at c.change.ensures.others in
     let changed = rw c.make_plan.ensures.world at c.in_default-change.ensures in
     let start = rw c.world.ensures.value at c.start_at-start.ensures in
@@ -131,11 +131,11 @@ loop-k-preserved g c =
     others ∙ ap (λ v. cells.over v (cells.map now)) going.same
     ∙ c.is_terrain.ensures.law.again w (cells.map c.loop-k.session.world) (cells.map now) in
     let alike = alike_over on g.met.W.Workspace.places_stay w now same in
-    let here : k < length course.batches =
+    let here : k < length updates.batches =
     (let test = c.loop-k-test.true in let count = c.batches-k-end.ensures.value in omega arith) in
     let next =
-    next_is g.W.Workspace.wording w now c.args.task.now.start course.moves k c.loop-k.start c.start_at-start.result
-    c.place_in.result (within on w course.batches course.moves k c.requires.task.course.moves here) (sym going.start_is)
+    next_is g.W.Workspace.reporting w now c.args.task.now.start updates.moves k c.loop-k.start c.start_at-start.result
+    c.place_in.result (within on w updates.batches updates.moves k c.requires.task.updates.moves here) (sym going.start_is)
     alike c.place_in.ensures.place start.state in
     record {
       going =
@@ -145,8 +145,8 @@ loop-k-preserved g c =
           c.in_default.ensures.ends c.make_plan.ensures.frame.writes c.in_default.ensures.set c.batch.ensures.writes
           changed.written others c.change.ensures.kept
           changed.begun c.in_default-change.ensures.same c.change.ensures.counts
-          (sym next) (λ still. stays_put g.W.Workspace.wording now course.moves k c.loop-k.start c.start_at-start.result
-          c.place_in.result (c.requires.task.course.stays still) c.place_in.ensures.place
+          (sym next) (λ still. stays_put g.W.Workspace.reporting now updates.moves k c.loop-k.start c.start_at-start.result
+          c.place_in.result (c.requires.task.updates.stays still) c.place_in.ensures.place
           start.state)
           (subst (λ (t : ℕ). IsAimed t (standing_of c.change.new.self) (standing_of c.aim.new.self))
           c.way-from.ensures.to c.in_default-aim.ensures.aimed));
@@ -160,7 +160,7 @@ loop-k-preserved g c =
 pub make_plan-requires-2-clause-goal : goal.make_plan-requires-2-clause-goal
 make_plan-requires-2-clause-goal g c =
     subst (λ (n : ℕ). c.args.task.now.goal < n)
-    (same_told_states g.W.Graph.network g.W.Workspace.wording.told g.W.Terrain.cells g.met.W.Workspace.same_states
+    (same_told_states g.W.Graph.network g.W.Workspace.reporting.told g.W.Terrain.cells g.met.W.Workspace.same_states
     c.is_terrain.ensures.law _ _ c.requires.task.kept c.loop-k.invariant.going.kept
     c.loop-k.invariant.going.same) c.requires.task.goal
 

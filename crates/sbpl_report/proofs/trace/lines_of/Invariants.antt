@@ -3,4 +3,4 @@ use Rattle.sbpl_report.proofs.trace.lines_of.Given as goal
 
 -- what was told, and what is left to tell, are all
 abbrev pub invariant-loop-note : goal.invariant-loop-note
-invariant-loop-note g l = l.lines.items ++ map g.N.Traced.line (drop l.note-index l.notes) ≡ map g.N.Traced.line l.notes
+invariant-loop-note g l = l.lines.items ++ map g.N.Traced.line (drop l.note-index l.actions) ≡ map g.N.Traced.line l.actions

@@ -6,7 +6,7 @@ use Rattle.sbpl_replan.proofs.session.Session.change.Goals as goal
 
 pub change-requires-clause-on_map : goal.change-requires-clause-on_map
 change-requires-clause-on_map g c =
-    subst (λ (s : SessionState g.row.S-Note.Denot g.row.H.Denot g.row.W.Denot). AreOnMap (g.W.Terrain.cells.map s.world)
+    subst (λ (s : SessionState g.row.S-Action.Denot g.row.H.Denot g.row.W.Denot). AreOnMap (g.W.Terrain.cells.map s.world)
     c.args.batch.now) (sym c.self.view_is) c.requires.on_map
 
 pub rebuild-requires : goal.rebuild-requires
@@ -15,14 +15,14 @@ rebuild-requires g c =
     let cells = g.W.Terrain.cells in
     let made = g.H.Heuristic.is_made_for in
     let w = c.self.inside.world in
-    let old : SessionState g.row.S-Note.Denot g.row.H.Denot g.row.W.Denot = record {
+    let old : SessionState g.row.S-Action.Denot g.row.H.Denot g.row.W.Denot = record {
       world = w;
       search = g.S.Search.state c.self.inside.search;
       guide = c.self.inside.guide;
       counts = c.self.inside.budget;
     } in
     let ready : IsReady g.S.Search.meaning n made old =
-    subst (λ (s : SessionState g.row.S-Note.Denot g.row.H.Denot g.row.W.Denot). IsReady g.S.Search.meaning n made s)
+    subst (λ (s : SessionState g.row.S-Action.Denot g.row.H.Denot g.row.W.Denot). IsReady g.S.Search.meaning n made s)
     (sym c.self.view_is) c.requires.ready in
     let back = as_before n cells c.is_terrain.ensures.law w c.change.new.world c.change.ensures.others in
     record {
@@ -35,14 +35,14 @@ returns-clause-ready g c =
     let cells = g.W.Terrain.cells in
     let made = g.H.Heuristic.is_made_for in
     let w = c.self.inside.world in
-    let old : SessionState g.row.S-Note.Denot g.row.H.Denot g.row.W.Denot = record {
+    let old : SessionState g.row.S-Action.Denot g.row.H.Denot g.row.W.Denot = record {
       world = w;
       search = g.S.Search.state c.self.inside.search;
       guide = c.self.inside.guide;
       counts = c.self.inside.budget;
     } in
     let ready : IsReady g.S.Search.meaning n made old =
-    subst (λ (s : SessionState g.row.S-Note.Denot g.row.H.Denot g.row.W.Denot). IsReady g.S.Search.meaning n made s)
+    subst (λ (s : SessionState g.row.S-Action.Denot g.row.H.Denot g.row.W.Denot). IsReady g.S.Search.meaning n made s)
     (sym c.self.view_is) c.requires.ready in
     let back = as_before n cells c.is_terrain.ensures.law w c.change.new.world c.change.ensures.others in
     record {

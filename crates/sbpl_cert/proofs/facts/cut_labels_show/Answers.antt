@@ -1,5 +1,0 @@
-use Rattle.sbpl_cert.proofs.CutShows.{cut_shows}
-use Rattle.sbpl_cert.proofs.facts.cut_labels_show.Goals as goal
-
-pub returns : goal.returns
-returns c = record { shows = cut_shows }

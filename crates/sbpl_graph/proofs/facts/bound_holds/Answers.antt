@@ -1,5 +1,0 @@
-use Rattle.sbpl_graph.proofs.Paths.{bound_holds_lem}
-use Rattle.sbpl_graph.proofs.facts.bound_holds.Goals as goal
-
-pub returns : goal.returns
-returns c = record { every_path = bound_holds_lem }

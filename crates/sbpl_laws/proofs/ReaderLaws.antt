@@ -1,0 +1,103 @@
+-- The readers' laws of texts, as they are used of the files of a job.
+use Rattle.std.proofs.Common.{◌≡◌, ℕ, ℤ, List, Option, Some, None, sym, ◌∙◌}
+use Rattle.sbpl_promises.specs.sbpl_cfg.declared.fault.EnvFault.{EnvFault}
+use Rattle.sbpl_promises.specs.sbpl_cfg.Environment.{Environment}
+use Rattle.sbpl_promises.specs.sbpl_cfg.Text as environments
+use Rattle.sbpl_promises.specs.sbpl_map.CellMap.{CellMap}
+use Rattle.sbpl_promises.specs.sbpl_map.ChangeText as changes
+use Rattle.sbpl_promises.specs.sbpl_map.LineFaults as change_faults
+use Rattle.sbpl_promises.specs.sbpl_map.declared.fault.ChangeFault.{ChangeFault}
+use Rattle.sbpl_promises.specs.sbpl_map.declared.write.Write.{Write}
+use Rattle.sbpl_promises.specs.sbpl_mprim.declared.fault.PrimFault.{PrimFault}
+use Rattle.sbpl_promises.specs.sbpl_mprim.Primitives.{Primitives}
+use Rattle.sbpl_promises.specs.sbpl_mprim.Text as primitives
+use Rattle.sbpl_promises.specs.sbpl_nav2d.Environment.{NavEnvironment}
+use Rattle.sbpl_promises.specs.sbpl_nav2d.Text as grids
+use Rattle.sbpl_promises.specs.sbpl_cfg.declared.pose.Place.{Place}
+use Rattle.sbpl_promises.specs.Clear.{TextsAreClear}
+use Rattle.sbpl_promises.specs.Texts.{HasChangeFault, IsChangeText, Scope}
+use Rattle.sbpl_promises.specs.declared.updates.Updates.{Updates}
+
+pub texts_clear :
+    ((text : List ℕ) (e d : Environment) (cells others : List ℕ) → environments.IsTextOf text e cells
+    → environments.IsTextOf text d others → (e ≡ d) × (cells ≡ others))
+    → ((text : List ℕ) (f : EnvFault) → environments.IsText text → environments.HasFault text f → ⊥)
+    → ((text : List ℕ) (f g : EnvFault) → environments.HasFault text f → environments.HasFault text g → f ≡ g)
+    → ((text : List ℕ) (ps qs : Primitives) → primitives.IsTextOf text ps → primitives.IsTextOf text qs → ps ≡ qs)
+    → ((cell : ℤ) (headings : ℕ) (text : List ℕ) (f : PrimFault) → primitives.IsText cell headings text
+    → primitives.HasFault cell headings text f → ⊥)
+    → ((cell : ℤ) (headings : ℕ) (text : List ℕ) (f g : PrimFault) → primitives.HasFault cell headings text f
+    → primitives.HasFault cell headings text g → f ≡ g)
+    → ((text : List ℕ) (e d : NavEnvironment) (cells others : List ℕ) → grids.IsTextOf text e cells
+    → grids.IsTextOf text d others → (e ≡ d) × (cells ≡ others))
+    → ((text : List ℕ) (f : EnvFault) → grids.IsText text → grids.HasFault text f → ⊥)
+    → ((text : List ℕ) (f g : EnvFault) → grids.HasFault text f → grids.HasFault text g → f ≡ g)
+    → ((s : Scope) (text : List ℕ) (c d : Updates) → IsChangeText s text c → IsChangeText s text d → c ≡ d)
+    → ((s : Scope) (text : List ℕ) (c : Updates) (f : ChangeFault) → IsChangeText s text c → HasChangeFault s text f → ⊥)
+    → ((s : Scope) (text : List ℕ) (f g : ChangeFault) → HasChangeFault s text f → HasChangeFault s text g → f ≡ g)
+    → TextsAreClear
+texts_clear one not_both one_fault one_list not_both_lists one_list_fault one_grid not_both_grids one_grid_fault
+    updates_once not_both_updates updates_once_fault = record {
+      environment = one;
+      environment_fault = λ text e cells f p q. not_both text f (e, cells, p) q;
+      one_environment_fault = one_fault;
+      primitives = λ text e ps qs p q. one_list text ps qs p.stands q.stands;
+      primitive_fault = λ text e ps f p q. not_both_lists e.cell e.headings text f (ps, p.cell, p.headings, p.stands) q;
+      one_primitive_fault = λ text e f g p q. one_list_fault e.cell e.headings text f g p q;
+      grid = one_grid;
+      grid_fault = λ text e cells f p q. not_both_grids text f (e, cells, p) q;
+      one_grid_fault = one_grid_fault;
+      changes = updates_once;
+      change_fault = not_both_updates;
+      one_change_fault = updates_once_fault;
+    }
+
+-- ---- change files, in whose lines the robot stays or moves
+
+updates_by : (batches others : List (List Write)) (moves more : Option (List (Option Place)))
+    → batches ≡ others → moves ≡ more
+    → ◌≡◌ {A = Updates} (record { batches = batches; moves = moves }) (record { batches = others; moves = more })
+updates_by batches others moves more a b = λ i. record { batches = a i; moves = b i }
+
+pub updates_once_for :
+    ((m : CellMap) (text : List ℕ) (batches others : List (List Write)) → changes.IsTextOf m text batches
+    → changes.IsTextOf m text others → batches ≡ others)
+    → ((m : CellMap) (headings : ℕ) (text : List ℕ) (batches others : List (List Write))
+    (moves more : List (Option Place)) → changes.IsMovesTextOf m headings text batches moves
+    → changes.IsMovesTextOf m headings text others more → (batches ≡ others) × (moves ≡ more))
+    → (s : Scope) (text : List ℕ) (c d : Updates) → IsChangeText s text c → IsChangeText s text d → c ≡ d
+updates_once_for still moving s text c d x y = by_headings s.headings x y
+  where
+    by_headings : (o : Option ℕ) → IsChangeText (record { map = s.map; headings = o }) text c
+        → IsChangeText (record { map = s.map; headings = o }) text d → c ≡ d
+    by_headings None x y =
+        updates_by c.batches d.batches c.moves d.moves (still s.map text c.batches d.batches x.0 y.0) (x.1 ∙ sym y.1)
+    by_headings (Some headings) (moves, is, x) (more, also, y) =
+        let both = moving s.map headings text c.batches d.batches moves more x y in
+        let same = both.1 in
+        updates_by c.batches d.batches c.moves d.moves both.0 (is ∙ (λ i. Some (same i)) ∙ sym also)
+
+pub not_both_for :
+    ((m : CellMap) (text : List ℕ) (f : ChangeFault) → changes.IsText m text → change_faults.HasFault m text f → ⊥)
+    → ((m : CellMap) (headings : ℕ) (text : List ℕ) (f : ChangeFault) → changes.IsMovesText m headings text
+    → change_faults.HasMovesFault m headings text f → ⊥)
+    → (s : Scope) (text : List ℕ) (c : Updates) (f : ChangeFault) → IsChangeText s text c → HasChangeFault s text f → ⊥
+not_both_for still moving s text c f x y = by_headings s.headings x y
+  where
+    by_headings : (o : Option ℕ) → IsChangeText (record { map = s.map; headings = o }) text c
+        → HasChangeFault (record { map = s.map; headings = o }) text f → ⊥
+    by_headings None x y = still s.map text f (c.batches, x.0) y
+    by_headings (Some headings) (moves, is, x) y = moving s.map headings text f (c.batches, moves, x) y
+
+pub one_fault_for :
+    ((m : CellMap) (text : List ℕ) (f g : ChangeFault) → change_faults.HasFault m text f
+    → change_faults.HasFault m text g → f ≡ g)
+    → ((m : CellMap) (headings : ℕ) (text : List ℕ) (f g : ChangeFault) → change_faults.HasMovesFault m headings text f
+    → change_faults.HasMovesFault m headings text g → f ≡ g)
+    → (s : Scope) (text : List ℕ) (f g : ChangeFault) → HasChangeFault s text f → HasChangeFault s text g → f ≡ g
+one_fault_for still moving s text f g x y = by_headings s.headings x y
+  where
+    by_headings : (o : Option ℕ) → HasChangeFault (record { map = s.map; headings = o }) text f
+        → HasChangeFault (record { map = s.map; headings = o }) text g → f ≡ g
+    by_headings None x y = still s.map text f g x y
+    by_headings (Some headings) x y = moving s.map headings text f g x y

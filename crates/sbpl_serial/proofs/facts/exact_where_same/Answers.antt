@@ -1,5 +1,0 @@
-use Rattle.sbpl_serial.proofs.Exactness.{exact_where_same_lem}
-use Rattle.sbpl_serial.proofs.facts.exact_where_same.Goals as goal
-
-pub returns : goal.returns
-returns c = record { every_state = exact_where_same_lem }

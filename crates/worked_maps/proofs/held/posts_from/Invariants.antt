@@ -1,4 +1,0 @@
-use Rattle.worked_maps.proofs.held.posts_from.Given as goal
-
-abbrev pub ghosts-posts_as : goal.ghosts-posts_as
-ghosts-posts_as g a = record { line = a.line }
