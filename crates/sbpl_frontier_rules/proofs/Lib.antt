@@ -6,6 +6,7 @@ pub mod Opening
 pub mod Posting
 pub mod Replaying
 pub mod Once
+pub mod ArcsOnce
 pub mod Walking
 pub mod SettledAtOne
 pub mod Recounting

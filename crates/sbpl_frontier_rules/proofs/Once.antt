@@ -155,7 +155,7 @@ opened_more {q} {s} {rest} {old} {mid} {new} inside opening later =
     }
 
 -- applying the judgement of an arc keeps the start and the number of states
-relaxed_same : (n : Network) (old new : Marks) (s k : ℕ) (head : Option ℕ) → IsRelaxed n old new s k head
+pub relaxed_same : (n : Network) (old new : Marks) (s k : ℕ) (head : Option ℕ) → IsRelaxed n old new s k head
     → (new.start ≡ old.start) × (states_of new ≡ states_of old)
 relaxed_same n old new s k None relaxed = (ap (λ (m : Marks). m.start) relaxed.0, ap states_of relaxed.0)
 relaxed_same n old new s k (Some t) (c, by) = (by.changed.start, by.changed.states)

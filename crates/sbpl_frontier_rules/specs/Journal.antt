@@ -62,3 +62,13 @@ posts n _ = 0
 abbrev pub posted_times : ℕ → List Event → ℕ
 posted_times n [] = 0
 posted_times n (e ∷ rest) = posts n e + posted_times n rest
+
+-- how often an event hands out arc k of state s
+abbrev pub hands_out : (s k : ℕ) → Event → ℕ
+hands_out s k (Taken ticket seat state arc) = cond (nat_eq state s) (cond (nat_eq arc k) 1 0) 0
+hands_out s k _ = 0
+
+-- how often these events do
+abbrev pub handed_out_times : (s k : ℕ) → List Event → ℕ
+handed_out_times s k [] = 0
+handed_out_times s k (e ∷ rest) = hands_out s k e + handed_out_times s k rest

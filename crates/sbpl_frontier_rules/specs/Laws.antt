@@ -14,7 +14,7 @@ use Rattle.sbpl_frontier_rules.specs.declared.event.Event.{Event}
 use Rattle.sbpl_frontier_rules.specs.declared.event.Event.TheVariants.{Taken, Posted}
 use Rattle.sbpl_frontier_rules.specs.Events.{AreEvents, IsFirst, IsIdle, IsOutOfBudget}
 use Rattle.sbpl_frontier_rules.specs.Frontier.{Frontier, is_opened}
-use Rattle.sbpl_frontier_rules.specs.Journal.{opened_times, openings, posted_times, posts_in, taken_times, takes_in}
+use Rattle.sbpl_frontier_rules.specs.Journal.{opened_times, openings, posted_times, posts_in, taken_times, takes_in, handed_out_times}
 use Rattle.sbpl_frontier_rules.specs.Kept.{IsKept}
 
 -- the graph keeps its laws, the guide is consistent on it, and the inflation is at least one
@@ -93,3 +93,8 @@ pub record GoOnce (n : Network) (events : List Event) : Type 0 where
 abbrev pub TicketsGoOnce : Type 0
 TicketsGoOnce = (q : Query) (m : Marks) (before : Counts) (events : List Event) (old new : Frontier) → IsFirst m before old → AreEvents q events old new
     → GoOnce q.network events
+
+-- every list of events from the beginning of a pass hands out each arc of a state at most once
+abbrev pub EachArcGoesOnce : Type 0
+EachArcGoesOnce = (q : Query) (m : Marks) (before : Counts) (events : List Event) (old new : Frontier) → IsFirst m before old → AreEvents q events old new
+    → (s k : ℕ) → handed_out_times s k events ≤ 1

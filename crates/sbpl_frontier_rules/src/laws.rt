@@ -1,6 +1,6 @@
 //! What every list of events keeps.
 
-ghost use Rattle.sbpl_frontier_rules.specs.Laws.{EachOpensOnce, EventsKeep, FirstIsKept, IdleIsExact, IdleShows};
+ghost use Rattle.sbpl_frontier_rules.specs.Laws.{EachArcGoesOnce, EachOpensOnce, EventsKeep, FirstIsKept, IdleIsExact, IdleShows};
 ghost use Rattle.sbpl_frontier_rules.specs.Laws.{SettledAtOne, TakesComeBack, TicketsGoOnce};
 ghost use Rattle.sbpl_frontier_rules.specs.Passes.{CountsAreFree, OpenedByEvents, StartStaysFresh};
 
@@ -10,8 +10,8 @@ ghost use Rattle.sbpl_frontier_rules.specs.Passes.{CountsAreFree, OpenedByEvents
 /// the cost of every free path to it. Where no arc is ready and none is out, the labels are exact, and with their low they show a
 /// bound of every path from the start to the goal. With inflation 1 each opened state has v = g. Each arc that was
 /// handed out is out, or its judgement came back. No ticket is taken twice or posted twice, and each judgement is that of the arc
-/// that an earlier event handed out under its ticket. (ePA*SE, Mukherjee, Aine and Likhachev 2022; the test of independence after
-/// PA*SE, Phillips, Likhachev and Koenig 2014.)
+/// that an earlier event handed out under its ticket. Each arc of a state is handed out at most once. (ePA*SE, Mukherjee,
+/// Aine and Likhachev 2022; the test of independence after PA*SE, Phillips, Likhachev and Koenig 2014.)
 /// This does nothing when it runs.
 pub fn events_keep()
     ensures first { FirstIsKept }
@@ -25,4 +25,5 @@ pub fn events_keep()
     ensures start { StartStaysFresh }
     ensures back { TakesComeBack }
     ensures tickets { TicketsGoOnce }
+    ensures arcs { EachArcGoesOnce }
 {}

@@ -1,3 +1,4 @@
+use Rattle.sbpl_frontier_rules.proofs.ArcsOnce.{each_arc_goes_once}
 use Rattle.sbpl_frontier_rules.proofs.First.{first_kept, idle_is_exact}
 use Rattle.sbpl_frontier_rules.proofs.Once.{each_opens_once}
 use Rattle.sbpl_frontier_rules.proofs.Replaying.{events_kept}
@@ -43,3 +44,6 @@ returns-clause-back c = takes_come_back opening_bounded
 
 pub returns-clause-tickets : goal.returns-clause-tickets
 returns-clause-tickets c = tickets_go_once
+
+pub returns-clause-arcs : goal.returns-clause-arcs
+returns-clause-arcs c = each_arc_goes_once
