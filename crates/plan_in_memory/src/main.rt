@@ -69,6 +69,7 @@ fn session(alloc: Global, lattice: Lattice, trip: Trip) -> Result<LatticeSession
     ensures ready { IfOk result (IsReadyOn adstar) }
     ensures start { IfOk result (λ s. s.search.labels.start ≡ trip.start) }
     ensures goal { IfOk result (λ s. s.search.goal ≡ trip.goal) }
+    ensures world { IfOk result (λ s. s.world ≡ lattice) }
 {
     let search = search_on(alloc, &lattice, trip)?;
     LatticeSession::open(alloc, lattice, search, BUDGET)
@@ -128,6 +129,7 @@ fn plan(
     requires goal { session.old.search.goal ≡ trip.goal }
     ensures ready { OnOk result (IsReadyOn adstar session.new) }
     ensures same { OnOk result (StaysTheSame (standing_of session.old) (standing_of session.new)) }
+    ensures world { session.new.world ≡ session.old.world }
 {
     let planned = session.plan(alloc, &ASK, &mut Nobody)?;
     let shown = show(rt, session.world(), trip, &planned.outcome);
@@ -144,6 +146,7 @@ fn change(
     requires ready { IsReadyOn adstar session.old }
     ensures ready { OnOk result (IsReadyOn adstar session.new) }
     ensures same { OnOk result (StaysTheSame (standing_of session.old) (standing_of session.new)) }
+    ensures states { OnOk result ((network_of session.new.world).states ≡ (network_of session.old.world).states) }
 {
     if !are_on_map(session.world(), writes) {
         anyhow::bail!("a cell off the map");
@@ -151,7 +154,27 @@ fn change(
     Ok(session.change(alloc, writes)?)
 }
 
-/// Plans, and repairs the plan as the doors close and open.
+/// Plans the way back: the goal is where the robot is now, and the start is where it is to go.
+fn plan_back(
+    rt: &impl Print,
+    alloc: Global,
+    session: &mut LatticeSession<AdStar>,
+    trip: Trip,
+) -> anyhow::Result<()>
+    requires ready { IsReadyOn adstar session.old }
+    requires start { trip.start < (network_of session.old.world).states }
+    requires goal { trip.goal < (network_of session.old.world).states }
+{
+    let back = Trip {
+        start: trip.goal,
+        goal: trip.start,
+    };
+    session.aim(alloc, back.goal)?;
+    session.start_from(back.start);
+    plan(rt, alloc, session, back)
+}
+
+/// Plans, and repairs the plan as the doors close and open. Then the robot goes back.
 fn plan_and_repair(
     rt: &impl Print,
     alloc: Global,
@@ -161,6 +184,8 @@ fn plan_and_repair(
     requires ready { IsReadyOn adstar session.old }
     requires start { session.old.search.labels.start ≡ trip.start }
     requires goal { session.old.search.goal ≡ trip.goal }
+    requires start_inside { trip.start < (network_of session.old.world).states }
+    requires goal_inside { trip.goal < (network_of session.old.world).states }
 {
     println!(rt; "both doors are open")?;
     plan(rt, alloc, session, trip)?;
@@ -172,7 +197,9 @@ fn plan_and_repair(
     plan(rt, alloc, session, trip)?;
     println!(rt; "the near door opens")?;
     change(alloc, session, [door(2, FREE)].as_slice())?;
-    plan(rt, alloc, session, trip)
+    plan(rt, alloc, session, trip)?;
+    println!(rt; "and back")?;
+    plan_back(rt, alloc, session, trip)
 }
 
 /// Makes a session on a lattice, and plans. A large value, such as a session, is dropped by a call of `drop` and not at the

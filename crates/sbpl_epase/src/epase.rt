@@ -91,9 +91,25 @@ impl<F> Epase<F> {
         ensures goal { self.new.search.goal ≡ self.old.search.goal }
         ensures make { self.new.make ≡ self.old.make }
     {
+        let start = self.labels().start();
+        self.restart(start);
+    }
+
+    /// Makes the labels initial, from another start, a state by its number. The goal and the number of states stay. It takes no
+    /// memory.
+    pub fn restart(&mut self, start: u32)
+        requires start { start < states_of self.old.search.labels }
+        ensures opened { AreInitial self.new.search.labels (states_of self.old.search.labels) start }
+        ensures ready { (n : Network) (count : ℕ) → n.states ≡ states_of self.old.search.labels
+            → AreReady n self.new.search.labels count }
+        ensures fresh { IsStartFresh self.new.search.labels }
+        ensures none_raised { self.new.search.raised ≡ [] }
+        ensures goal { self.new.search.goal ≡ self.old.search.goal }
+        ensures make { self.new.make ≡ self.old.make }
+    {
         if let (Some(labels), Some(space)) = (&mut self.labels, &mut self.space) {
-            labels.reset();
-            space.restart(labels.start());
+            labels.restart(start);
+            space.restart(start);
         }
         self.raiser.clear();
     }

@@ -80,6 +80,10 @@ impl<
         Epase::aim(self, goal);
     }
 
+    fn restart(&mut self, start: u32) {
+        Epase::restart(self, start);
+    }
+
     fn goal(&self) -> u32 {
         Epase::goal(self)
     }

@@ -79,8 +79,21 @@ impl Labels {
         ensures not_under { NoneUnder (states_of self.old) (g_of self.new) (v_of self.new) }
         ensures fits { (count : ℕ) → FitCount (states_of self.old) (g_of self.new) (v_of self.new) count }
     {
+        self.restart(self.start());
+    }
+
+    /// Makes these opened labels from this start, a state by its number.
+    pub fn restart(&mut self, start: u32)
+        requires start { start < states_of self.old }
+        ensures opened { AreInitial self.new (states_of self.old) start }
+        ensures exact { (n : Network) → n.states ≡ states_of self.old
+            → AreExact n start (g_of self.new) (v_of self.new) (back_of self.new) }
+        ensures not_under { NoneUnder (states_of self.old) (g_of self.new) (v_of self.new) }
+        ensures fits { (count : ℕ) → FitCount (states_of self.old) (g_of self.new) (v_of self.new) count }
+    {
         self.rows.fill(FAR_ROW);
-        self.rows.set_way(self.start, 0, None);
+        self.rows.set_way(start, 0, None);
+        self.start = start;
     }
 
     /// The start.

@@ -1,7 +1,7 @@
 -- Plans one after another, while the map changes.
-use Rattle.std.specs.Prelude.{ℕ, true, List, ◌≡◌, ◌≤◌, ◌⊎◌}
+use Rattle.std.specs.Prelude.{ℕ, true, List, [], ◌≡◌, ◌≢◌, ◌≤◌, ◌⊎◌}
 use Rattle.sbpl_plan.specs.sbpl_labels.Counts.{Counts}
-use Rattle.sbpl_plan.specs.sbpl_labels.Marks.{Marks}
+use Rattle.sbpl_plan.specs.sbpl_labels.Marks.{AreInitial, Marks, states_of}
 use Rattle.sbpl_plan.specs.sbpl_search.Meaning.{Meaning}
 use Rattle.sbpl_plan.specs.sbpl_search.Ready.{IsStartFresh}
 use Rattle.sbpl_plan.specs.sbpl_search.State.{State}
@@ -51,6 +51,20 @@ pub record StaysTheSame {Action : Type 0} (old new : Standing Action) : Type 0 w
 -- the searches of the plans to come go to this state; all else of the search, and the counts, stay
 pub record IsAimed {Action : Type 0} (to : ℕ) (old new : Standing Action) : Type 0 where
   pub search : new.search ≡ record old.search { goal = to }
+  pub counts : new.counts ≡ old.counts
+
+-- labels with which a search begins from this state, on as many states as before, and no state was raised for them
+pub record AreBegunFrom {Action : Type 0} (from : ℕ) (old new : State Action) : Type 0 where
+  pub labels : AreInitial new.labels (states_of old.labels) from
+  pub none_raised : new.raised ≡ []
+
+-- the searches of the plans to come go from this state: with initial labels where they went from another, and with the labels that
+-- there were otherwise; the goal and the counts stay
+pub record IsMoved {Action : Type 0} (from : ℕ) (old new : Standing Action) : Type 0 where
+  pub from_is : new.search.labels.start ≡ from
+  pub begun : old.search.labels.start ≢ from → AreBegunFrom from old.search new.search
+  pub stays : old.search.labels.start ≡ from → new.search ≡ old.search
+  pub goal : new.search.goal ≡ old.search.goal
   pub counts : new.counts ≡ old.counts
 
 -- Memory ran out after a part of a plan, whose expansions are counted and none of which is beyond the budget; another plan may begin,

@@ -10,7 +10,7 @@ ghost use Rattle.sbpl_plan.specs.Determined.{AreWithin};
 ghost use Rattle.sbpl_plan.specs.Observed.{AreTold};
 ghost use Rattle.sbpl_plan.specs.Planned.{IsPlanned};
 ghost use Rattle.sbpl_replan.specs.Replanning.{BeginsWith, IsAimed, IsReady, StandsOutOfMemory, StaysTheSame, at_plan};
-ghost use Rattle.sbpl_replan.specs.Replanning.{inquiry, standing_of};
+ghost use Rattle.sbpl_replan.specs.Replanning.{IsMoved, inquiry, standing_of};
 
 use crate::change::change;
 use sbpl_heur::{Best, Heuristic, Lattice, Terrain, Write};
@@ -18,9 +18,9 @@ use sbpl_plan::{Ask, Budget, Inquiry, Labels, NoMemory, Observer, Planned, Searc
 use std::alloc::Global;
 use std::marker::Model;
 
-/// A world, and plans on it by one search, one after another: batches of changes are written to its map, and the goal may change.
-/// The world may be a graph the other way round: then the search's goal is where the robot is. The heuristic follows the
-/// map and the goal. It owns all of this, and borrows nothing.
+/// A world, and plans on it by one search, one after another: batches of changes are written to its map, and the goal and the
+/// start may change. The world may be a graph the other way round: then the search's goal is where the robot is. The heuristic
+/// follows the map and the goal. It owns all of this, and borrows nothing.
 #[derive(Drop)]
 pub struct Session<W: Terrain + Drop, H: Heuristic<W>, S: Search<W, H> + Drop> {
     world: W,
@@ -205,6 +205,22 @@ impl<W: Terrain + Drop, H: Heuristic<W>, S: Search<W, H> + Drop> Session<W, H, S
         self.guide.aim(alloc, &self.world, goal)?;
         self.search.aim(goal);
         Ok(())
+    }
+
+    /// Lets the searches of the plans to come go from another state, by its number: the labels become initial ones. Where
+    /// they go from it already, nothing is done, and the labels stay. It takes no memory.
+    pub fn start_from(&mut self, start: u32)
+        requires ready { IsReady S.meaning W.network H.is_made_for self.old }
+        requires start { start < (W.network self.old.world).states }
+        ensures moved { IsMoved start (standing_of self.old) (standing_of self.new) }
+        ensures ready { IsReady S.meaning W.network H.is_made_for self.new }
+        ensures world { self.new.world ≡ self.old.world }
+        ensures guide { self.new.guide ≡ self.old.guide }
+    {
+        if start == self.search.labels().start() {
+            return;
+        }
+        self.search.restart(start);
     }
 
     /// The states that were raised when the last change made the labels ready, in order, where the planner raises states

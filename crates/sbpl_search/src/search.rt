@@ -1,10 +1,11 @@
 //! A search that makes passes.
 
-ghost use Rattle.std.specs.Prelude.{◌≡◌, ◌≢◌, ℕ, ◌+◌, ◌^◌, ◌<◌, ◌≤◌, ⊤, true, IfOk, OnErr, OnOk};
+ghost use Rattle.std.specs.Prelude.{◌≡◌, ◌≢◌, ℕ, ◌+◌, ◌^◌, ◌<◌, ◌≤◌, ⊤, [], true, IfOk, OnErr};
+ghost use Rattle.std.specs.Prelude.{OnOk};
 ghost use Rattle.std.specs.List.Sorted.{IsStrictlyIncreasing};
 ghost use Rattle.sbpl_labels.specs.sbpl_graph.Bound.{IsLow};
 ghost use Rattle.sbpl_labels.specs.sbpl_graph.Network.{Network};
-ghost use Rattle.sbpl_labels.specs.Marks.{AreLabels, Marks, states_of, g_of, v_of};
+ghost use Rattle.sbpl_labels.specs.Marks.{AreInitial, AreLabels, Marks, states_of, g_of, v_of};
 ghost use Rattle.sbpl_search.specs.Changed.{IsChangeable};
 ghost use Rattle.sbpl_search.specs.Meaning.{Meaning};
 ghost use Rattle.sbpl_search.specs.Passed.{IsPassed};
@@ -82,6 +83,17 @@ pub trait Search<G: Graph, H: Guide> {
     fn aim(&mut self, goal: u32)
         requires goal { goal < states_of (state self.old).labels }
         ensures aimed { state self.new ≡ record (state self.old) { goal = goal } }
+        ensures serves { serves self.old → serves self.new };
+
+    /// Makes the labels initial, from another start, a state by its number. The goal stays. It takes no memory.
+    fn restart(&mut self, start: u32)
+        requires start { start < states_of (state self.old).labels }
+        ensures initial { AreInitial (state self.new).labels (states_of (state self.old).labels) start }
+        ensures ready { (n : Network) (count : ℕ) → n.states ≡ states_of (state self.old).labels
+            → meaning.ready n (state self.new).labels count }
+        ensures fresh { IsStartFresh (state self.new).labels }
+        ensures none_raised { (state self.new).raised ≡ [] }
+        ensures goal { (state self.new).goal ≡ (state self.old).goal }
         ensures serves { serves self.old → serves self.new };
 
     /// The goal of the passes, a state by its number.

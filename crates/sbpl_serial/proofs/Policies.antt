@@ -12,7 +12,7 @@ use Rattle.sbpl_search.specs.sbpl_labels.declared.pass_end.PassEnd.TheVariants.{
 use Rattle.sbpl_search.specs.Changed.{IsChangeable}
 use Rattle.sbpl_search.specs.Passed.{IsPassed}
 use Rattle.sbpl_search.specs.Query.{Query}
-use Rattle.sbpl_search.specs.Ready.{AreUsable, IsStartFresh}
+use Rattle.sbpl_search.specs.Ready.{AreReady, AreUsable, IsStartFresh}
 use Rattle.sbpl_serial.specs.Meant.{AreRenewable, AreRenewed, AreRepairedFor, MayBeginPass, most_times, seen, serial}
 use Rattle.sbpl_serial.specs.Passed.{GoesForward, IsForwardPass, IsSerialPass}
 use Rattle.sbpl_serial.specs.Serial.{SerialState}
@@ -120,3 +120,10 @@ module _ (n : Network) (touched : List ℕ) (old new : Marks) where
 
 -- what a planner says of such labels
 pub ruleset renewing = (renewable_by, renewed_start, renewed_states, renewed_fresh)
+
+-- from labels that are ready a pass may begin under either policy
+pub ready_by : (repairs : Bool) (n : Network) (m : Marks) (count : ℕ) → AreReady n m count → MayBeginPass repairs n m count
+ready_by false n m count ready = ready
+ready_by true n m count ready = record { states = ready.states; exact = ready.exact; fits = ready.fits }
+
+pub ruleset beginning = ready_by

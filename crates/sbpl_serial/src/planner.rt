@@ -39,6 +39,11 @@ impl<G: Graph, H: Guide, P: Policy> Search<G, H> for Serial<P> {
         Serial::aim(self, goal);
     }
 
+    #[tactic(auto, using(crate::proofs::Policies::beginning))]
+    fn restart(&mut self, start: u32) {
+        Serial::restart(self, start);
+    }
+
     fn goal(&self) -> u32 {
         Serial::goal(self)
     }

@@ -87,11 +87,26 @@ impl<P> Serial<P> {
         ensures goal { self.new.goal ≡ self.old.goal }
         ensures untraced { self.new.trace ≡ [] }
     {
-        self.labels.reset();
+        let start = self.labels.start();
+        self.restart(start);
+    }
+
+    /// Makes the labels initial, from another start, a state by its number, and empties the trace. The goal and the number of
+    /// states stay. It takes no memory.
+    pub fn restart(&mut self, start: u32)
+        requires start { start < states_of self.old.labels }
+        ensures opened { AreInitial self.new.labels (states_of self.old.labels) start }
+        ensures ready { (n : Network) (count : ℕ) → n.states ≡ states_of self.old.labels
+            → AreReady n self.new.labels count }
+        ensures fresh { IsStartFresh self.new.labels }
+        ensures goal { self.new.goal ≡ self.old.goal }
+        ensures untraced { self.new.trace ≡ [] }
+    {
+        self.labels.restart(start);
         self.closed.clear();
         self.steps.clear();
         self.queue.clear();
-        self.queue.put(self.labels.start(), Key(0, 0));
+        self.queue.put(start, Key(0, 0));
     }
 
     /// Sets the goal of the passes to come: a state, by its number. All else stays: the labels, the trace of the last pass, and
