@@ -15,7 +15,7 @@ mod room;
 use crate::room::{FREE, WALL, door, lattice};
 use anyhow::Context;
 use sbpl_replan::{
-    AdStar, Ask, FoundPath, Graph, Lattice, LatticeSession, NoMemory, Nobody, Outcome, Write,
+    AdStar, Ask, FoundPath, Graph, Lattice, LatticeSession, NoMemory, Nobody, PlanResult, Write,
     are_on_map, place_at,
 };
 use std::alloc::Global;
@@ -98,12 +98,12 @@ fn show(
     rt: &impl Print,
     lattice: &Lattice,
     trip: Trip,
-    found: &Outcome<FoundPath>,
+    found: &PlanResult<FoundPath>,
 ) -> io::Result<()>
     requires so { IsTrueOutcome (network_of lattice.now) trip.start trip.goal found.now }
 {
     match found {
-        Outcome::Path(path) => {
+        PlanResult::Path(path) => {
             println!(rt;
                 "cost {}, bound {}.{:03}",
                 path.cost,
@@ -112,8 +112,8 @@ fn show(
             )?;
             show_steps(rt, lattice, trip.start, path.arcs.as_slice())
         }
-        Outcome::NoPath => println!(rt; "there is no path"),
-        Outcome::Unknown => println!(rt; "the budget was spent before a path was found"),
+        PlanResult::NoPath => println!(rt; "there is no path"),
+        PlanResult::Unknown => println!(rt; "the budget was spent before a path was found"),
     }
 }
 

@@ -13,8 +13,8 @@ use crate::label_file::LabelFile;
 use crate::section_check::check_section;
 use sbpl_telling::{Ending, OUTPUT, end_with, status_after, write_text};
 use sbpl_worlds::{
-    Desk, Flaw, Graph, Guide, LabelFault, LabelOutcome as Outcome, NoMemory, SectionStop,
-    WriteStop, fault_line, flaw_line, holds_line, labels_message,
+    Desk, Flaw, Graph, Guide, LabelFault, NoMemory, Outcome, SectionStop, WriteStop, fault_line,
+    flaw_line, holds_line, labels_message,
 };
 use std::alloc::Global;
 

@@ -10,8 +10,7 @@ ghost use Rattle.sbpl_worlds.specs.sbpl_cert.Versions.{IsOf, arcs_of, claim_by, 
 ghost use Rattle.sbpl_worlds.specs.sbpl_promises.Checked.{IsReadStop, IsSectionStop, IsShownHolding, ground};
 
 use sbpl_worlds::{
-    Flaw, Graph, Guide, LabelFault, LabelOutcome as Outcome, Section, SectionStop, check,
-    check_sparse, read_labels,
+    Flaw, Graph, Guide, LabelFault, Outcome, Section, SectionStop, check, check_sparse, read_labels,
 };
 use std::alloc::Global;
 

@@ -99,7 +99,7 @@ impl Lattice {
         ensures cheap { IfOk result (λ _. AreCheap env.now prims.items) }
         ensures cause { IfErr result (λ e. IsCause env.now prims.items e) }
     {
-        let _width = map.width();
+        prove!(map.width() == env.width && map.height() == env.height);
         let Tables {
             costs,
             by_heading,
@@ -108,7 +108,7 @@ impl Lattice {
         } = tables_of(alloc, env, &prims, &sweeps, map.costs())?;
         let gaps = Gaps::new(env, &prims, costs.as_slice());
         Ok(Lattice {
-            env: copy_of(env),
+            env: *env,
             prims,
             sweeps,
             map,
@@ -163,7 +163,7 @@ impl Lattice {
         ensures gap { state_gap result ≡ (network_of self.now).gap }
     {
         StateGaps {
-            env: copy_of(&self.env),
+            env: self.env,
             rates: self.gaps,
         }
     }
@@ -412,23 +412,4 @@ impl Terrain for Lattice {
     }
 
     fn is_terrain() {}
-}
-
-/// The same environment.
-fn copy_of(env: &Env) -> Env
-    ensures same { result ≡ env.now }
-{
-    Env {
-        width: env.width,
-        height: env.height,
-        obsthresh: env.obsthresh,
-        inscribed: env.inscribed,
-        circumscribed: env.circumscribed,
-        cell: env.cell,
-        speed: env.speed,
-        turn45: env.turn45,
-        start: env.start,
-        end: env.end,
-        headings: env.headings,
-    }
 }

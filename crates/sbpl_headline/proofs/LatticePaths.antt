@@ -9,8 +9,8 @@ use Rattle.sbpl_promises.specs.sbpl_cost.Arc.{HasLatticeArcs}
 use Rattle.sbpl_promises.specs.sbpl_cost.Lattices.{network_of}
 use Rattle.sbpl_promises.specs.sbpl_cost.States.{place_of, state_number}
 use Rattle.sbpl_promises.specs.sbpl_cost.World.{IsWorld, World}
-use Rattle.sbpl_promises.specs.sbpl_plan.declared.result.Outcome.{Outcome}
-use Rattle.sbpl_promises.specs.sbpl_plan.declared.result.Outcome.TheVariants as outcome
+use Rattle.sbpl_promises.specs.sbpl_plan.declared.result.PlanResult.{PlanResult}
+use Rattle.sbpl_promises.specs.sbpl_plan.declared.result.PlanResult.TheVariants as outcome
 use Rattle.sbpl_promises.specs.sbpl_report.declared.record.PathRecord.{PathRecord}
 use Rattle.sbpl_promises.specs.sbpl_report.declared.record.PathStep.{PathStep}
 use Rattle.sbpl_promises.specs.sbpl_report.declared.record.PlanRecord.{PlanRecord}
@@ -81,7 +81,7 @@ module _ (w : World) (is_world : IsWorld w) (m : Map)
         )
 
     -- what is promised of a result, in the headline's words
-    keeps_result : (back : Bool) (s goal asked : ℕ) (spent : Option ℕ) (o : Outcome PathRecord)
+    keeps_result : (back : Bool) (s goal asked : ℕ) (spent : Option ℕ) (o : PlanResult PathRecord)
         → Joins (searched_on lattice_site back) w s goal o
         → IsWithinBound (network_of w) s goal o → IsNoneThere (network_of w) s goal o
         → (spent ≡ None → IsKnownWithin asked o)

@@ -11,8 +11,8 @@ use Rattle.sbpl_promises.specs.sbpl_job.declared.job.Outputs.{Outputs}
 use Rattle.sbpl_promises.specs.sbpl_plan.declared.found.Found.{Found}
 use Rattle.sbpl_promises.specs.sbpl_plan.declared.found.Found.TheVariants as found
 use Rattle.sbpl_promises.specs.sbpl_plan.declared.passes.PassRecord.{PassRecord}
-use Rattle.sbpl_promises.specs.sbpl_plan.declared.result.Outcome.{Outcome}
-use Rattle.sbpl_promises.specs.sbpl_plan.declared.result.Outcome.TheVariants as outcome
+use Rattle.sbpl_promises.specs.sbpl_plan.declared.result.PlanResult.{PlanResult}
+use Rattle.sbpl_promises.specs.sbpl_plan.declared.result.PlanResult.TheVariants as outcome
 use Rattle.sbpl_promises.specs.sbpl_report.declared.record.PathRecord.{PathRecord}
 use Rattle.sbpl_promises.specs.sbpl_report.declared.record.PathStep.{PathStep}
 use Rattle.sbpl_promises.specs.sbpl_report.declared.record.PlanRecord.{PlanRecord}
@@ -98,7 +98,7 @@ AreReportPosesTold at words [] = Unit {0}
 AreReportPosesTold at words (s ∷ steps) = IsReportPoseTold at words s.report_pose × AreReportPosesTold at words steps
 
 -- and of a path, which begins at this start
-abbrev pub IsResultTold : {P : Type 0} → (ReportPose → P) → (P → List (List ℕ)) → (start : P) → Outcome PathRecord → Type 0
+abbrev pub IsResultTold : {P : Type 0} → (ReportPose → P) → (P → List (List ℕ)) → (start : P) → PlanResult PathRecord → Type 0
 IsResultTold at words start (outcome.Path path) =
     (at path.start ≡ start) × IsReportPoseTold at words path.start × AreReportPosesTold at words path.steps
 IsResultTold at words start _ = Unit {0}
@@ -178,7 +178,7 @@ module _ {P : Type 0} (at : ReportPose → P) (words : P → List (List ℕ)) (s
       ap (λ (end : List ℕ). codes "pose " ++ end) told ∙ sym (line_more (codes "pose") (words (at s)) (some (at s)))
 
   -- the lines of a result
-  pub result_told : (start : P) (o : Outcome PathRecord) → IsResultTold at words start o
+  pub result_told : (start : P) (o : PlanResult PathRecord) → IsResultTold at words start o
       → outcome_text o ≡ result_text words start (told_result at o)
   unfolding path_text
   result_told start (outcome.Path path) told =

@@ -12,8 +12,8 @@ use Rattle.sbpl_promises.specs.sbpl_nav2d.World.{GridWorld}
 use Rattle.sbpl_promises.specs.sbpl_job.declared.job.Outputs.{Outputs}
 use Rattle.sbpl_promises.specs.sbpl_job.declared.job.Planner.{Planner}
 use Rattle.sbpl_promises.specs.sbpl_job.declared.job.SearchJob.{SearchJob}
-use Rattle.sbpl_promises.specs.sbpl_plan.declared.result.Outcome.{Outcome}
-use Rattle.sbpl_promises.specs.sbpl_plan.declared.result.Outcome.TheVariants as outcome
+use Rattle.sbpl_promises.specs.sbpl_plan.declared.result.PlanResult.{PlanResult}
+use Rattle.sbpl_promises.specs.sbpl_plan.declared.result.PlanResult.TheVariants as outcome
 use Rattle.sbpl_promises.specs.sbpl_report.declared.record.PathRecord.{PathRecord}
 use Rattle.sbpl_promises.specs.sbpl_report.declared.record.PathStep.{PathStep}
 use Rattle.sbpl_promises.specs.sbpl_report.declared.record.PlanRecord.{PlanRecord}
@@ -90,7 +90,7 @@ module _ {P W : Type 0} (at : ReportPose → P) (words : P → List (List ℕ)) 
   report_poses_told v s (k ∷ ks) (x ∷ xs) (t, head, step, steps) = (step_told v s k t x step, report_poses_told v t ks xs steps)
 
   -- the report poses of a result
-  result_told : (v : W) (start goal : ℕ) (place : P) (o : Outcome PathRecord) → at (by.on.reporting.report_pose v start) ≡ place
+  result_told : (v : W) (start goal : ℕ) (place : P) (o : PlanResult PathRecord) → at (by.on.reporting.report_pose v start) ≡ place
       → Joins by.on v start goal o → IsResultTold at words place o
   result_told v start goal place (outcome.Path path) is joins = (
     ap at joins.from ∙ is,

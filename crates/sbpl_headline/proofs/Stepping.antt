@@ -13,8 +13,8 @@ use Rattle.sbpl_promises.specs.sbpl_nav2d.Arc.{cell_of, cost_from}
 use Rattle.sbpl_promises.specs.sbpl_nav2d.Directions.{direction, moved}
 use Rattle.sbpl_promises.specs.sbpl_nav2d.Environment.{column_of, row_of}
 use Rattle.sbpl_promises.specs.sbpl_nav2d.World.{GridWorld, IsGridWorld}
-use Rattle.sbpl_promises.specs.sbpl_plan.declared.result.Outcome.{Outcome}
-use Rattle.sbpl_promises.specs.sbpl_plan.declared.result.Outcome.TheVariants as outcome
+use Rattle.sbpl_promises.specs.sbpl_plan.declared.result.PlanResult.{PlanResult}
+use Rattle.sbpl_promises.specs.sbpl_plan.declared.result.PlanResult.TheVariants as outcome
 use Rattle.sbpl_promises.specs.sbpl_report.declared.record.PathRecord.{PathRecord}
 use Rattle.sbpl_promises.specs.sbpl_report.declared.record.PathStep.{PathStep}
 use Rattle.sbpl_promises.specs.sbpl_report.declared.record.PlanRecord.{PlanRecord}
@@ -217,7 +217,7 @@ module _ (w : GridWorld) (is_world : IsGridWorld w) (is : IsGridNetwork (grid_si
   path_of = arcs_by_path w is_world (grid_site.network w) is m width height costs
 
   -- the promises of a plan's result, where it was spent or not
-  keeps_result : (back : Bool) (start goal asked : ℕ) (spent : Option ℕ) (o : Outcome PathRecord)
+  keeps_result : (back : Bool) (start goal asked : ℕ) (spent : Option ℕ) (o : PlanResult PathRecord)
       → Joins (searched_on grid_site back) w start goal o
       → IsWithinBound (grid_site.network w) start goal o → IsNoneThere (grid_site.network w) start goal o
       → (spent ≡ None → IsKnownWithin asked o)

@@ -1,7 +1,7 @@
 -- How the steps and the result of a plan's record are told in the headline's words, whatever a place is.
 use Rattle.std.specs.Prelude.{List, map}
-use Rattle.sbpl_promises.specs.sbpl_plan.declared.result.Outcome.{Outcome}
-use Rattle.sbpl_promises.specs.sbpl_plan.declared.result.Outcome.TheVariants as outcome
+use Rattle.sbpl_promises.specs.sbpl_plan.declared.result.PlanResult.{PlanResult}
+use Rattle.sbpl_promises.specs.sbpl_plan.declared.result.PlanResult.TheVariants as outcome
 use Rattle.sbpl_promises.specs.sbpl_report.declared.record.PathRecord.{PathRecord}
 use Rattle.sbpl_promises.specs.sbpl_report.declared.record.PathStep.{PathStep}
 use Rattle.sbpl_promises.specs.sbpl_report.declared.record.ReportPose.{ReportPose}
@@ -16,7 +16,7 @@ abbrev pub told_steps : {P : Type 0} → (ReportPose → P) → List PathStep �
 told_steps at steps = map (told_step at) steps
 
 -- the result of a plan
-abbrev pub told_result : {P : Type 0} → (ReportPose → P) → Outcome PathRecord → Result P
+abbrev pub told_result : {P : Type 0} → (ReportPose → P) → PlanResult PathRecord → Result P
 told_result at (outcome.Path path) = Path path.cost path.bound (told_steps at path.steps)
 told_result at outcome.NoPath = NoPath
 told_result at outcome.Unknown = Unknown

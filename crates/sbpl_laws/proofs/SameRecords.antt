@@ -13,7 +13,7 @@ use Rattle.sbpl_promises.specs.sbpl_cert.Sections.{FullSection, row_at}
 use Rattle.sbpl_promises.specs.sbpl_cert.Sections as section
 use Rattle.sbpl_promises.specs.sbpl_cert.Cut.{AreCutRows, CutRowsAreOne}
 use Rattle.sbpl_promises.specs.sbpl_cert.Sparse.{SparseSection}
-use Rattle.sbpl_promises.specs.sbpl_cert.declared.outcome.Outcome as told
+use Rattle.sbpl_promises.specs.sbpl_cert.declared.outcome.Outcome.{Outcome}
 use Rattle.sbpl_promises.specs.sbpl_cert.declared.section.Section.{Section}
 use Rattle.sbpl_promises.specs.sbpl_cert.declared.section.Section.TheVariants.{Full, Sparse}
 use Rattle.sbpl_promises.specs.sbpl_job.declared.job.LabelForm.{LabelForm}
@@ -32,8 +32,8 @@ use Rattle.sbpl_promises.specs.sbpl_job.declared.job.Planner.TheVariants as plan
 use Rattle.sbpl_promises.specs.sbpl_plan.declared.ask.Ask.{Ask}
 use Rattle.sbpl_promises.specs.sbpl_plan.declared.passes.PassRecord.{PassRecord}
 use Rattle.sbpl_promises.specs.sbpl_plan.declared.result.FoundPath.{FoundPath}
-use Rattle.sbpl_promises.specs.sbpl_plan.declared.result.Outcome.{Outcome}
-use Rattle.sbpl_promises.specs.sbpl_plan.declared.result.Outcome.TheVariants as outcome
+use Rattle.sbpl_promises.specs.sbpl_plan.declared.result.PlanResult.{PlanResult}
+use Rattle.sbpl_promises.specs.sbpl_plan.declared.result.PlanResult.TheVariants as outcome
 use Rattle.sbpl_promises.specs.sbpl_plan.Asked.{lowered}
 use Rattle.sbpl_promises.specs.sbpl_plan.Determined.{AreWithin, OutcomesAreOne, PassesAreOne}
 use Rattle.sbpl_promises.specs.sbpl_plan.Outcomes.{IsResultOf}
@@ -80,7 +80,7 @@ module _ {W : Type 0} (on : Site W) (Alike : W → W → Type 0) (alike : AreAli
       λ i. first i ∷ rest i
 
   -- the outcome that tells a result is determined
-  one_told : (start goal : ℕ) (r : Outcome FoundPath) (o p : Outcome PathRecord) → IsSameResult r o → IsSameResult r p
+  one_told : (start goal : ℕ) (r : PlanResult FoundPath) (o p : PlanResult PathRecord) → IsSameResult r o → IsSameResult r p
       → Joins (searched_on on back) w start goal o → Joins (searched_on on back) v start goal p → o ≡ p
   one_told start goal (outcome.Path found) (outcome.Path x) (outcome.Path y) told also joins joins' =
       let way : x.arcs ≡ y.arcs = told.0 ∙ sym also.0 in
@@ -108,7 +108,7 @@ module _ {W : Type 0} (on : Site W) (Alike : W → W → Type 0) (alike : AreAli
 
 -- a result that a found one leads to is determined
 one_turned : {leads other : List ℕ → List ℕ → Type 0} → ((f a b : List ℕ) → leads f a → other f b → a ≡ b)
-    → (f p q : Outcome FoundPath) → IsTurned leads f p → IsTurned other f q → p ≡ q
+    → (f p q : PlanResult FoundPath) → IsTurned leads f p → IsTurned other f q → p ≡ q
 one_turned one (outcome.Path f) (outcome.Path p) (outcome.Path q) x y =
     let arcs : p.arcs ≡ q.arcs = one f.arcs p.arcs q.arcs x.0 y.0 in
     let cost : p.cost ≡ q.cost = x.1 ∙ sym y.1 in
@@ -144,7 +144,7 @@ one_low {states} {goal} {g} {v} {h} {h'} {low} {low'} alike a b =
     a.greatest low' b.at_goal (λ s inside differ. omega (arith, alike s inside, b.unsettled s inside differ)) in
     omega arith
 
-one_full : {n n' : Network} {h h' : ℕ → ℕ} {start goal plan : ℕ} {m : Marks} {found : Outcome FoundPath}
+one_full : {n n' : Network} {h h' : ℕ → ℕ} {start goal plan : ℕ} {m : Marks} {found : PlanResult FoundPath}
     → AreAlikeGuides (states_of m) h h' → (s u : FullSection)
     → IsShownInFull n h start goal plan m found s → IsShownInFull n' h' start goal plan m found u → s ≡ u
 one_full {n} {n'} {h} {h'} {start} {goal} {plan} {m} {found} alike s u x y =
@@ -161,7 +161,7 @@ one_full {n} {n'} {h} {h'} {start} {goal} {plan} {m} {found} alike s u x y =
     in
     λ i. record { plan = number i; low = low i; outcome = answer i; arcs = arcs i; labels = labels i }
 
-one_sparse : CutRowsAreOne → {n : Network} {h h' : ℕ → ℕ} {start goal plan : ℕ} {m : Marks} {found : Outcome FoundPath}
+one_sparse : CutRowsAreOne → {n : Network} {h h' : ℕ → ℕ} {start goal plan : ℕ} {m : Marks} {found : PlanResult FoundPath}
     → states_of m ≡ n.states → AreAlikeGuides (states_of m) h h' → (s u : SparseSection)
     → IsShownSparsely n h start goal plan m found s → IsShownSparsely n h' start goal plan m found u → s ≡ u
 one_sparse cut_one {n} {h} {h'} {start} {goal} {plan} {m} {found} all alike s u x y =
@@ -171,7 +171,7 @@ one_sparse cut_one {n} {h} {h'} {start} {goal} {plan} {m} {found} all alike s u 
     let answer : s.outcome ≡ u.outcome = x.answer ∙ sym y.answer in
     let arcs : s.arcs ≡ u.arcs = x.arcs ∙ sym y.arcs in
     let own : AreCutRows s.outcome n m h' s.low u.rows =
-    subst (λ (o : told.Outcome). AreCutRows o n m h' s.low u.rows) (sym answer)
+    subst (λ (o : Outcome). AreCutRows o n m h' s.low u.rows) (sym answer)
     (subst (λ (l : ℕ). AreCutRows u.outcome n m h' l u.rows) (sym low) y.labels.rows)
     in
     let rows : s.rows ≡ u.rows =
@@ -179,7 +179,7 @@ one_sparse cut_one {n} {h} {h'} {start} {goal} {plan} {m} {found} all alike s u 
     (λ t inside. alike t (subst (λ (count : ℕ). t < count) (sym all) inside)) x.labels.rows own in
     λ i. record { plan = number i; states = states i; low = low i; outcome = answer i; arcs = arcs i; rows = rows i }
 
-one_section : CutRowsAreOne → (n : Network) (h h' : ℕ → ℕ) (start goal plan : ℕ) (m : Marks) (found : Outcome FoundPath)
+one_section : CutRowsAreOne → (n : Network) (h h' : ℕ → ℕ) (start goal plan : ℕ) (m : Marks) (found : PlanResult FoundPath)
     → states_of m ≡ n.states → AreAlikeGuides (states_of m) h h' → (f : LabelForm) (s u : Section)
     → IsShown f n h start goal plan m found s → IsShown f n h' start goal plan m found u → s ≡ u
 one_section cut_one n h h' start goal plan m found all alike form.Full (Full s) (Full u) x y =

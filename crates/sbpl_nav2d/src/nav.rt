@@ -38,19 +38,6 @@ impl Model for Nav {
     ghost invariant = { λ n. IsGridWorld (record { env = n.env; map = n.map }) };
 }
 
-/// The same environment.
-fn copy_of(env: &NavEnv) -> NavEnv
-    ensures same { result ≡ env.now }
-{
-    NavEnv {
-        width: env.width,
-        height: env.height,
-        obsthresh: env.obsthresh,
-        start: env.start,
-        end: env.end,
-    }
-}
-
 /// The cost from which a cell is an obstacle.
 fn limit_of(env: &NavEnv) -> u8
     ensures limit { result ≡ env.now.obsthresh }
@@ -66,11 +53,8 @@ impl Nav {
         ensures world { result ≡ record { env = env.now; map = map } }
         ensures kept { IsGridWorld result }
     {
-        let _width = map.width();
-        Nav {
-            env: copy_of(env),
-            map,
-        }
+        prove!(map.width() == env.width && map.height() == env.height);
+        Nav { env: *env, map }
     }
 
     /// The environment that the grid was made of. Its start and its end are states.

@@ -19,7 +19,7 @@ use Rattle.sbpl_plan.specs.declared.ask.Ask.{Ask}
 use Rattle.sbpl_plan.specs.declared.passes.PassRecord.{PassRecord}
 use Rattle.sbpl_plan.specs.Asked.{IsAsk, lowered, most_passes}
 use Rattle.sbpl_plan.specs.declared.result.FoundPath.{FoundPath}
-use Rattle.sbpl_plan.specs.declared.result.Outcome.{Outcome}
+use Rattle.sbpl_plan.specs.declared.result.PlanResult.{PlanResult}
 use Rattle.sbpl_plan.proofs.Iterations.{IsIteration}
 use Rattle.sbpl_plan.specs.OutOfMemory.{IsPartOfPlan, RunsOutOfMemory}
 use Rattle.sbpl_plan.specs.Outcomes.{AgreesWithFound, IsConclusive, IsResultOf}
@@ -198,7 +198,7 @@ module _ {Action : Type 0} (means : Meaning Action) {q : Inquiry} {old : State A
           }
 
       -- a pass after them that is the last, with the result
-      module _ (o : Outcome FoundPath) (asked : IsAsk q.ask) (last : EndsPlan q eps new.labels spent p.found)
+      module _ (o : PlanResult FoundPath) (asked : IsAsk q.ask) (last : EndsPlan q eps new.labels spent p.found)
           (is : IsResultOf q.network q.guide q.goal new.labels o)
           (sized : states_of new.labels ≡ q.network.states) where
         few_passes : length (passes ++ p ∷ []) ≤ most_passes q.ask.step q.ask.first

@@ -12,8 +12,8 @@ use Rattle.sbpl_search.specs.sbpl_labels.Marks.{Marks, states_of, g_of, v_of}
 use Rattle.sbpl_plan.specs.declared.found.Found.{Found}
 use Rattle.sbpl_plan.specs.declared.found.Found.TheVariants as found
 use Rattle.sbpl_plan.specs.declared.result.FoundPath.{FoundPath}
-use Rattle.sbpl_plan.specs.declared.result.Outcome.{Outcome}
-use Rattle.sbpl_plan.specs.declared.result.Outcome.TheVariants as outcome
+use Rattle.sbpl_plan.specs.declared.result.PlanResult.{PlanResult}
+use Rattle.sbpl_plan.specs.declared.result.PlanResult.TheVariants as outcome
 use Rattle.sbpl_plan.specs.Looking.{IsPathFound, WalkFinds}
 use Rattle.sbpl_plan.specs.Outcomes.{IsConclusive, IsResultOf, AgreesWithFound, IsTrueOutcome}
 use Rattle.sbpl_plan.specs.Passing.{Inquiry, EndsPlan}
@@ -44,7 +44,7 @@ pub cut_or_unknown : (n : Network) (h : ℕ → ℕ) (goal : ℕ) (m : Marks) (o
 cut_or_unknown n h goal m others f finds is not = (not, no_path_found n h goal m others f finds is)
 
 -- the result is true
-pub outcome_is_true : (n : Network) (h : ℕ → ℕ) (goal : ℕ) (m : Marks) (start : ℕ) (o : Outcome FoundPath) → BoundHolds
+pub outcome_is_true : (n : Network) (h : ℕ → ℕ) (goal : ℕ) (m : Marks) (start : ℕ) (o : PlanResult FoundPath) → BoundHolds
     → NoneHolds → IsSound n → IsConsistent n goal h → states_of m ≡ n.states → AreSupported n m.start (g_of m) (v_of m)
     → m.start ≡ start → IsResultOf n h goal m o → IsTrueOutcome n start goal o
 outcome_is_true n h goal m start (outcome.Path p) bounds nones sound consistent same supported first path =
@@ -77,7 +77,7 @@ outcome_is_true n h goal m start outcome.NoPath bounds nones sound consistent sa
 outcome_is_true n h goal m start outcome.Unknown bounds nones sound consistent same supported first unknown = tt
 
 -- where the last pass was not spent, the result is known
-pub outcome_is_known : (q : Inquiry) (eps : ℕ) (m : Marks) (others : List ℕ) (f : Found) (o : Outcome FoundPath)
+pub outcome_is_known : (q : Inquiry) (eps : ℕ) (m : Marks) (others : List ℕ) (f : Found) (o : PlanResult FoundPath)
     → 1000 ≤ q.ask.bound → EndsPlan q eps m false f
     → (eps ≡ 1000 → g_of m q.goal ≡ FAR → IsCutOff (states_of m) q.goal (g_of m) (v_of m)) → (eps ≡ 1000 → IsTight f)
     → WalkFinds q.network q.guide q.goal m others f → AgreesWithFound f o → IsResultOf q.network q.guide q.goal m o

@@ -13,8 +13,8 @@ use Rattle.sbpl_search.specs.sbpl_graph.declared.TheConstants.{FAR}
 use Rattle.sbpl_plan.specs.declared.found.Found.{Found}
 use Rattle.sbpl_plan.specs.declared.found.Found.TheVariants as found
 use Rattle.sbpl_plan.specs.declared.result.FoundPath.{FoundPath}
-use Rattle.sbpl_plan.specs.declared.result.Outcome.{Outcome}
-use Rattle.sbpl_plan.specs.declared.result.Outcome.TheVariants as outcome
+use Rattle.sbpl_plan.specs.declared.result.PlanResult.{PlanResult}
+use Rattle.sbpl_plan.specs.declared.result.PlanResult.TheVariants as outcome
 use Rattle.sbpl_plan.specs.Looking.{IsPathFound, WalkFinds}
 use Rattle.sbpl_plan.specs.Outcomes.{IsResultOf}
 use Rattle.sbpl_search.specs.Determined.{AreAlikeGuides}
@@ -148,7 +148,7 @@ module _ (n : Network) (h : ℕ → ℕ) (goal : ℕ) (m : Marks) (none : back_o
       omega arith
 
   -- the result is determined
-  pub one_outcome : (o o' : Outcome FoundPath) → IsResultOf n h goal m o → IsResultOf n h goal m o' → o ≡ o'
+  pub one_outcome : (o o' : PlanResult FoundPath) → IsResultOf n h goal m o → IsResultOf n h goal m o' → o ≡ o'
   one_outcome (outcome.Path p) (outcome.Path r) a b =
       let one = one_path a b in
       λ i. outcome.Path (record { arcs = one.0 i; cost = one.1 i; bound = one.2 i })
@@ -162,7 +162,7 @@ module _ (n : Network) (h : ℕ → ℕ) (goal : ℕ) (m : Marks) (none : back_o
   one_outcome outcome.Unknown outcome.Unknown a b = refl
 
 -- the result by another guide that says the same of each state
-guided_outcome : (n : Network) (h h' : ℕ → ℕ) (goal : ℕ) (m : Marks) (o : Outcome FoundPath)
+guided_outcome : (n : Network) (h h' : ℕ → ℕ) (goal : ℕ) (m : Marks) (o : PlanResult FoundPath)
     → AreAlikeGuides (states_of m) h h' → IsResultOf n h goal m o → IsResultOf n h' goal m o
 guided_outcome n h h' goal m (outcome.Path p) alike is = guided_path h' alike is
 guided_outcome n h h' goal m outcome.NoPath alike is = is

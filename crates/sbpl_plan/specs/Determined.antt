@@ -6,7 +6,7 @@ use Rattle.sbpl_search.specs.Determined.{AreAlikeGuides}
 use Rattle.sbpl_search.specs.Meaning.{Meaning}
 use Rattle.sbpl_plan.specs.declared.passes.PassRecord.{PassRecord}
 use Rattle.sbpl_plan.specs.declared.result.FoundPath.{FoundPath}
-use Rattle.sbpl_plan.specs.declared.result.Outcome.{Outcome}
+use Rattle.sbpl_plan.specs.declared.result.PlanResult.{PlanResult}
 use Rattle.sbpl_plan.specs.Outcomes.{IsResultOf}
 use Rattle.sbpl_plan.specs.Passing.{ArePasses, Inquiry, expansions}
 
@@ -32,5 +32,5 @@ PassesAreOne {Action = Action} means = (q : Inquiry) (h : ℕ → ℕ) (budget b
 
 -- labels have one result, path, cost and bound with it, where the start has no back arc
 abbrev pub OutcomesAreOne : Type 0
-OutcomesAreOne = (n : Network) (h h' : ℕ → ℕ) (goal : ℕ) (m : Marks) (one other : Outcome FoundPath) → back_of m m.start ≡ None
+OutcomesAreOne = (n : Network) (h h' : ℕ → ℕ) (goal : ℕ) (m : Marks) (one other : PlanResult FoundPath) → back_of m m.start ≡ None
     → AreAlikeGuides (states_of m) h h' → IsResultOf n h goal m one → IsResultOf n h' goal m other → one ≡ other

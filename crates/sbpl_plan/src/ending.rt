@@ -11,7 +11,7 @@ ghost use Rattle.sbpl_plan.specs.Outcomes.{AgreesWithFound, IsResultOf};
 
 use crate::ask::Ask;
 use crate::found::Found;
-use crate::result::{Arcs, FoundPath, Outcome};
+use crate::result::{Arcs, FoundPath, PlanResult};
 use sbpl_search::{Labels, PassEnd};
 
 /// Whether a pass was spent.
@@ -64,23 +64,23 @@ pub(crate) fn outcome_of(
     goal: u32,
     found: Found,
     arcs: Vec<u32>,
-) -> Outcome<FoundPath>
+) -> PlanResult<FoundPath>
     requires goal { goal < states_of labels.now }
     ensures outcome { (n : Network) (h : ℕ → ℕ) → WalkFinds n h goal labels.now arcs.items found
         → IsResultOf n h goal labels.now result }
     ensures agrees { AgreesWithFound found result }
 {
     match found {
-        Found::Path { cost, bound } => Outcome::Path(FoundPath {
+        Found::Path { cost, bound } => PlanResult::Path(FoundPath {
             arcs: Arcs::of(arcs),
             cost,
             bound,
         }),
         Found::None | Found::Broken => {
             if labels.shows_none(goal) {
-                Outcome::NoPath
+                PlanResult::NoPath
             } else {
-                Outcome::Unknown
+                PlanResult::Unknown
             }
         }
     }

@@ -19,7 +19,7 @@ pub use laws::plan_is_determined;
 pub use make::plan;
 pub use observer::{Nobody, Observer};
 pub use passes::{PassRecord, Passes, Trace};
-pub use result::{Arcs, FoundPath, Outcome, Planned};
+pub use result::{Arcs, FoundPath, PlanResult, Planned};
 pub use sbpl_lists::{ListOf, Piece, push_all, push_bytes, push_field, push_number};
 pub use sbpl_search::{
     Budget, FAR, Graph, Guide, Labels, NoMemory, PassEnd, Search, Walk, Zero, bound_holds,

@@ -19,7 +19,7 @@ pub struct FoundPath {
 
 /// The result of a plan, with what is told of its path.
 #[derive(Debug, Drop)]
-pub enum Outcome<P> {
+pub enum PlanResult<P> {
     /// A path.
     Path(P),
     /// There is no path.
@@ -36,5 +36,5 @@ pub struct Planned<N> {
     /// Whether the last pass was spent.
     pub spent: bool,
     /// Its result.
-    pub outcome: Outcome<FoundPath>,
+    pub outcome: PlanResult<FoundPath>,
 }

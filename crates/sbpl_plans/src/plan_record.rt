@@ -15,19 +15,18 @@ ghost use Rattle.sbpl_worlds.specs.sbpl_plan.Asked.{IsAsk, MOST_PASSES};
 ghost use Rattle.sbpl_worlds.specs.sbpl_replan.Replanning.{IsReady, standing_of};
 ghost use Rattle.sbpl_worlds.specs.sbpl_job.Jobs.{IsSearchJob};
 ghost use Rattle.sbpl_worlds.specs.sbpl_promises.Asked.{ask_of, planner_on};
-ghost use Rattle.sbpl_worlds.specs.sbpl_plan.Outcomes.{IsResultOf, IsTrueOutcome};
-ghost use Rattle.sbpl_worlds.specs.sbpl_graph.Certificate.{AreSupported};
-ghost use Rattle.sbpl_worlds.specs.sbpl_labels.Marks.{g_of, v_of};
-ghost use Rattle.sbpl_worlds.specs.sbpl_report.Shown.{IsShown, IsThere};
+ghost use Rattle.sbpl_worlds.specs.sbpl_plan.Outcomes.{IsTrueOutcome};
+ghost use Rattle.sbpl_worlds.specs.sbpl_report.Shown.{HasEnded, IsShown, IsThere};
 ghost use Rattle.std.specs.Option.{is_some};
 ghost use Rattle.sbpl_worlds.specs.sbpl_plan.Outcomes as Conclusions;
-ghost use Rattle.sbpl_worlds.specs.sbpl_plan.declared.result.Outcome.TheVariants as Results;
+ghost use Rattle.sbpl_worlds.specs.sbpl_plan.declared.result.PlanResult.TheVariants as Results;
 
 use crate::live_board::LiveBoard;
 use crate::task::{Task, Turn};
 use sbpl_worlds::{
-    Ask, Entry, FoundPath, NoMemory, Outcome, Outputs, PathRecord, PlanRecord, Planned, Raised,
-    Search, SearchJob, Section, Session, Steps, Traced, Workspace, labels_of, traced_passes,
+    Ask, Ended, Entry, FoundPath, NoMemory, Outputs, PathRecord, PlanRecord, PlanResult, Planned,
+    Raised, Search, SearchJob, Section, Session, Steps, Traced, Workspace, labels_of,
+    traced_passes,
 };
 use std::alloc::Global;
 use std::sync::Wait;
@@ -84,8 +83,8 @@ fn outcome_of<W: Workspace>(
     world: &W,
     start: u32,
     goal: u32,
-    found: Outcome<FoundPath>,
-) -> Result<Outcome<PathRecord>, NoMemory>
+    found: PlanResult<FoundPath>,
+) -> Result<PlanResult<PathRecord>, NoMemory>
     requires state { start < (W.reporting.told world.now).states }
     requires so { IsTrueOutcome (W.reporting.told world.now) start goal found }
     ensures told { IfOk result (IsSameResult found) }
@@ -95,9 +94,9 @@ fn outcome_of<W: Workspace>(
     ensures answered { IfOk result (λ o. (asked : ℕ) → Conclusions.IsConclusive asked found → IsKnownWithin asked o) }
 {
     match found {
-        Outcome::Path(path) => Ok(Outcome::Path(path_of(alloc, world, start, goal, path)?)),
-        Outcome::NoPath => Ok(Outcome::NoPath),
-        Outcome::Unknown => Ok(Outcome::Unknown),
+        PlanResult::Path(path) => Ok(PlanResult::Path(path_of(alloc, world, start, goal, path)?)),
+        PlanResult::NoPath => Ok(PlanResult::NoPath),
+        PlanResult::Unknown => Ok(PlanResult::Unknown),
     }
 }
 
@@ -136,30 +135,24 @@ fn section_of<W: Workspace + Drop, S: Search<W, W::Best> + Drop>(
     alloc: Global,
     session: &Session<W, W::Best, S>,
     plan: u32,
-    found: &Outcome<FoundPath>,
+    found: &PlanResult<FoundPath>,
     outputs: &Outputs,
 ) -> Result<Option<Section>, NoMemory>
-    requires ready { IsReady S.meaning W.network W.Best.is_made_for session.now }
-    requires goal { session.now.search.goal < (W.network session.now.world).states }
-    requires found { IsResultOf (W.network session.now.world) (W.Best.distance session.now.guide) session.now.search.goal
-        session.now.search.labels found.now }
-    requires supported { AreSupported (W.network session.now.world) session.now.search.labels.start
-        (g_of session.now.search.labels) (v_of session.now.search.labels) }
+    requires ended { HasEnded (W.network session.now.world) (W.Best.guides session.now.guide)
+        (W.Best.distance session.now.guide) session.now.search.goal session.now.search.labels found.now }
     ensures shown { IfOk result (IsThere (is_some outputs.now.labels) (IsShown outputs.now.form (W.network session.now.world)
         (W.Best.distance session.now.guide) session.now.search.labels.start session.now.search.goal plan
         session.now.search.labels found.now)) }
 {
-    labels_of(
-        alloc,
-        session.world(),
-        session.guide(),
-        session.labels(),
-        session.goal(),
+    let ended = Ended {
+        graph: session.world(),
+        guide: session.guide(),
+        goal: session.goal(),
         plan,
+        labels: session.labels(),
         found,
-        outputs.labels.is_some(),
-        outputs.form,
-    )
+    };
+    labels_of(alloc, &ended, outputs.labels.is_some(), outputs.form)
 }
 
 /// The record of plan `plan`, which expanded this number of states.

@@ -5,8 +5,8 @@ use Rattle.sbpl_report.specs.sbpl_graph.Network.{Network}
 use Rattle.sbpl_report.specs.sbpl_graph.Path.{IsFreePath}
 use Rattle.sbpl_report.specs.sbpl_labels.Marks.{Marks, AreInitial}
 use Rattle.sbpl_report.specs.sbpl_plan.declared.result.FoundPath.{FoundPath}
-use Rattle.sbpl_report.specs.sbpl_plan.declared.result.Outcome.{Outcome}
-use Rattle.sbpl_report.specs.sbpl_plan.declared.result.Outcome.TheVariants as outcome
+use Rattle.sbpl_report.specs.sbpl_plan.declared.result.PlanResult.{PlanResult}
+use Rattle.sbpl_report.specs.sbpl_plan.declared.result.PlanResult.TheVariants as outcome
 use Rattle.sbpl_report.specs.sbpl_plan.Asked.{most_passes}
 use Rattle.sbpl_report.specs.sbpl_plan.Outcomes.{IsResultOf}
 use Rattle.sbpl_report.specs.sbpl_plan.declared.found.Found.{Found}
@@ -46,43 +46,43 @@ pub record JoinsStates {W : Type 0} (on : Site W) (w : W) (start goal : ℕ) (pa
   pub steps : AreSteps on w start path.arcs path.steps
 
 -- joins: where the result is a path, it joins start to goal
-abbrev pub Joins : {W : Type 0} → Site W → W → ℕ → ℕ → Outcome PathRecord → Type 0
+abbrev pub Joins : {W : Type 0} → Site W → W → ℕ → ℕ → PlanResult PathRecord → Type 0
 Joins on w start goal (outcome.Path path) = JoinsStates on w start goal path
 Joins on w start goal _ = Unit {0}
 
 -- at most the printed bound times: its cost is at most its bound, in thousandths, times that of every free path
-abbrev pub IsWithinBound : Network → ℕ → ℕ → Outcome PathRecord → Type 0
+abbrev pub IsWithinBound : Network → ℕ → ℕ → PlanResult PathRecord → Type 0
 IsWithinBound n start goal (outcome.Path path) = (arcs : List ℕ) (cost : ℕ) → IsFreePath n start arcs goal cost → 1000 * path.cost ≤ path.bound * cost
 IsWithinBound n start goal _ = Unit {0}
 
 -- none: where the result is that there is no path, no free path joins start to goal
-abbrev pub IsNoneThere : Network → ℕ → ℕ → Outcome PathRecord → Type 0
+abbrev pub IsNoneThere : Network → ℕ → ℕ → PlanResult PathRecord → Type 0
 IsNoneThere n start goal outcome.NoPath = (arcs : List ℕ) (cost : ℕ) → IsFreePath n start arcs goal cost → ⊥
 IsNoneThere n start goal _ = Unit {0}
 
 -- the result is known, and its bound is at least one and at most the one asked
-abbrev pub IsKnownWithin : ℕ → Outcome PathRecord → Type 0
+abbrev pub IsKnownWithin : ℕ → PlanResult PathRecord → Type 0
 IsKnownWithin asked (outcome.Path path) = (1000 ≤ path.bound) × (path.bound ≤ asked)
 IsKnownWithin asked outcome.NoPath = Unit {0}
 IsKnownWithin asked outcome.Unknown = ⊥
 
 -- a result is the one that a search found: the one path is what the other leads to, at the same cost and with the same bound
-abbrev pub IsTurned : (leads : (found path : List ℕ) → Type 0) → (found result : Outcome FoundPath) → Type 0
+abbrev pub IsTurned : (leads : (found path : List ℕ) → Type 0) → (found result : PlanResult FoundPath) → Type 0
 IsTurned leads (outcome.Path f) (outcome.Path p) = leads f.arcs p.arcs × (p.cost ≡ f.cost) × (p.bound ≡ f.bound)
 IsTurned leads outcome.NoPath outcome.NoPath = Unit {0}
 IsTurned leads outcome.Unknown outcome.Unknown = Unit {0}
 IsTurned leads _ _ = ⊥
 
 -- a result is told step by step
-abbrev pub IsSameResult : Outcome FoundPath → Outcome PathRecord → Type 0
+abbrev pub IsSameResult : PlanResult FoundPath → PlanResult PathRecord → Type 0
 IsSameResult (outcome.Path found) (outcome.Path path) = (path.arcs ≡ found.arcs) × (path.cost ≡ found.cost) × (path.bound ≡ found.bound)
 IsSameResult outcome.NoPath outcome.NoPath = Unit {0}
 IsSameResult outcome.Unknown outcome.Unknown = Unit {0}
 IsSameResult _ _ = ⊥
 
 -- a result is told step by step as the search found it, with the path that its path leads to
-pub record IsToldOf (leads : (found path : List ℕ) → Type 0) (found : Outcome FoundPath) (told : Outcome PathRecord) : Type 0 where
-  pub result : Outcome FoundPath
+pub record IsToldOf (leads : (found path : List ℕ) → Type 0) (found : PlanResult FoundPath) (told : PlanResult PathRecord) : Type 0 where
+  pub result : PlanResult FoundPath
   pub turned : IsTurned leads found result
   pub same : IsSameResult result told
 
@@ -132,7 +132,7 @@ pub record IsSearched {W : Type 0} (by : PlannerOn W) (w : W) (how : SearchJob) 
   pub actions : List (PassRecord by.Action)
   pub passes : ArePasses by.means (inquiry_of (by.on.network w) guide (to_by by start goal) (ask_of how outputs)) how.first begun actions carried.labels spent
   pub lines : r.passes ≡ map (traced_pass by.line) actions
-  pub found : Outcome FoundPath
+  pub found : PlanResult FoundPath
   pub is_result : IsResultOf (by.on.network w) guide (to_by by start goal) carried.labels found
   pub told : IsToldOf (Leads by.on.reporting.back (by.on.reporting.told w) start goal) found r.outcome
   pub expanded : r.expanded ≡ expansions r.passes

@@ -84,13 +84,13 @@ pub use sbpl_epase::{Epase, Gate, NoGate, Parts, parallel_pass_parts};
 
 // Of `sbpl_cert`.
 pub use sbpl_report::{
-    Flaw, LabelFault, LabelOutcome, Section, check, check_sparse, cut_rows_are_one,
-    first_flaws_are_one, labels_message, read_labels, texts_are_sections_or_faulty,
+    Flaw, LabelFault, Outcome, Section, check, check_sparse, cut_rows_are_one, first_flaws_are_one,
+    labels_message, read_labels, texts_are_sections_or_faulty,
 };
 
 // Of `sbpl_plan`.
 pub use sbpl_report::{
-    Arcs, Ask, Found, FoundPath, Observer, Outcome, PassRecord, Planned, plan_is_determined,
+    Arcs, Ask, Found, FoundPath, Observer, PassRecord, PlanResult, Planned, plan_is_determined,
 };
 
 // Of `sbpl_replan`.
@@ -105,7 +105,7 @@ pub use sbpl_report::{
 
 // Of `sbpl_report`.
 pub use sbpl_report::{
-    Input, JobStop, PathRecord, PathStep, PlanRecord, Raised, Refusal, ReportPose, Steps,
+    Ended, Input, JobStop, PathRecord, PathStep, PlanRecord, Raised, Refusal, ReportPose, Steps,
     TraceLine, Traced, demo_line, fault_line, flaw_line, holds_line, incumbent_line, labels_of,
     labels_text, listing_at, plan_line, refusal_line, trace_of, traced_passes,
 };

@@ -12,8 +12,8 @@ use Rattle.sbpl_plan.specs.sbpl_labels.Marks.{Marks, states_of, g_of, v_of}
 use Rattle.sbpl_plan.specs.Looking.{IsPathFound}
 use Rattle.sbpl_plan.specs.Outcomes.{IsResultOf}
 use Rattle.sbpl_plan.specs.declared.result.FoundPath.{FoundPath}
-use Rattle.sbpl_plan.specs.declared.result.Outcome.{Outcome}
-use Rattle.sbpl_plan.specs.declared.result.Outcome.TheVariants as outcome
+use Rattle.sbpl_plan.specs.declared.result.PlanResult.{PlanResult}
+use Rattle.sbpl_plan.specs.declared.result.PlanResult.TheVariants as outcome
 use Rattle.sbpl_cert.specs.Cut.{IsNeededAt}
 use Rattle.sbpl_cert.specs.Made.{IsOfCutLabels, IsOfLabels}
 use Rattle.sbpl_cert.specs.Sparse.{SparseSection, g_in, sparse_claim, v_in}
@@ -21,9 +21,9 @@ use Rattle.sbpl_cert.specs.Sections as sections
 use Rattle.sbpl_cert.specs.Sections.{HasArcs, FullSection}
 use Rattle.sbpl_cert.specs.Claims.{Claim, claim_of}
 use Rattle.sbpl_cert.specs.Sound.{ShowsBound, ShowsOutcome}
-use Rattle.sbpl_cert.specs.declared.outcome.Outcome as told
+use Rattle.sbpl_cert.specs.declared.outcome.Outcome.{Outcome}
 use Rattle.sbpl_cert.specs.declared.row.Row.{Row}
-use Rattle.sbpl_report.specs.Shown.{IsShownInFull, IsShownSparsely, answer_of, arcs_of}
+use Rattle.sbpl_report.specs.Shown.{IsShownInFull, IsShownSparsely, arcs_of, outcome_without_arcs}
 
 -- each arc number of a free path is below the most arcs of a state
 small_arcs : (n : Network) (s t c : ℕ) (arcs : List ℕ) → IsSound n → IsFreePath n s arcs t c → (i : ℕ) → i < length arcs
@@ -54,16 +54,16 @@ module _ (n : Network) (sound : IsSound n) (guide : ℕ → ℕ) (goal : ℕ) (m
       ⊎_elim (λ (far : g_of m goal ≡ FAR). absurd (omega arith)) (λ (small : g_of m goal < 2 ^ 62). omega arith)
       (supported.labels goal inside).0
 
-  pub answer_fits : (found : Outcome FoundPath) → IsResultOf n guide goal m found
-      → sections.IsOutcomeInRange (answer_of found)
+  pub answer_fits : (found : PlanResult FoundPath) → IsResultOf n guide goal m found
+      → sections.IsOutcomeInRange (outcome_without_arcs found)
   answer_fits (outcome.Path p) is =
       let small : p.cost < 2 ^ 62 = small_cost p.arcs p.cost p.bound is in
       (small, is.bound_is.at_least_one, small_bound p.cost is.low p.bound small is.bound_is)
   answer_fits outcome.NoPath is = tt
   answer_fits outcome.Unknown is = tt
 
-  pub arcs_fit : (found : Outcome FoundPath) → IsResultOf n guide goal m found
-      → HasArcs (answer_of found) (arcs_of found)
+  pub arcs_fit : (found : PlanResult FoundPath) → IsResultOf n guide goal m found
+      → HasArcs (outcome_without_arcs found) (arcs_of found)
   arcs_fit (outcome.Path p) is = record {
     few =
         let few : length p.arcs < n.states = is.walk.few in
@@ -82,10 +82,11 @@ module _ (n : Network) (sound : IsSound n) (guide : ℕ → ℕ) (goal : ℕ) (m
       omega arith
 
   -- a claim with the low of these labels, and with the labels themselves where there is no path, shows the result
-  shows_outcome : (found : Outcome FoundPath) (c : Claim) → IsResultOf n guide goal m found
+  shows_outcome : (found : PlanResult FoundPath) (c : Claim) → IsResultOf n guide goal m found
       → IsLow (states_of m) goal (g_of m) (v_of m) guide c.low
       → (found ≡ outcome.NoPath → (u : ℕ) → u < states_of m → (c.g u ≡ g_of m u) × (c.v u ≡ v_of m u))
-      → ShowsBound n m.start goal c → c.arcs ≡ arcs_of found → ShowsOutcome n m.start goal c (answer_of found)
+      → ShowsBound n m.start goal c → c.arcs ≡ arcs_of found
+      → ShowsOutcome n m.start goal c (outcome_without_arcs found)
   shows_outcome (outcome.Path p) c is lowest own bounds copied =
       let low : c.low ≡ is.low = one_low c.low is.low lowest is.low_is in (
         subst (λ (l : List ℕ). IsFreePath n m.start l goal p.cost) (sym copied) is.walk.path,
@@ -104,8 +105,8 @@ module _ (n : Network) (sound : IsSound n) (guide : ℕ → ℕ) (goal : ℕ) (m
   shows_outcome outcome.Unknown c is lowest own bounds copied = tt
 
   -- a section in full
-  in_full : (plan : ℕ) (found : Outcome FoundPath) (s : FullSection) → IsResultOf n guide goal m found → s.plan ≡ plan
-      → s.outcome ≡ answer_of found → s.arcs ≡ arcs_of found → IsOfLabels m guide goal s
+  in_full : (plan : ℕ) (found : PlanResult FoundPath) (s : FullSection) → IsResultOf n guide goal m found
+      → s.plan ≡ plan → s.outcome ≡ outcome_without_arcs found → s.arcs ≡ arcs_of found → IsOfLabels m guide goal s
       → ShowsBound n m.start goal (claim_of s)
       → IsShownInFull n guide m.start goal plan m found s
   in_full plan found s is number says copied made bounds = record {
@@ -115,16 +116,16 @@ module _ (n : Network) (sound : IsSound n) (guide : ℕ → ℕ) (goal : ℕ) (m
     arcs = copied;
     shows = record {
       bound = bounds;
-      outcome = subst (λ (o : told.Outcome). ShowsOutcome n m.start goal (claim_of s) o) (sym says)
+      outcome = subst (λ (o : Outcome). ShowsOutcome n m.start goal (claim_of s) o) (sym says)
           (shows_outcome found (claim_of s) is made.low (λ none u here.
           (ap (λ (r : Row). r.g) (made.labels.rows u here), ap (λ (r : Row). r.v) (made.labels.rows u here)))
           bounds copied);
     };
   }
 
-  pub shown_in_full : (plan : ℕ) (found : Outcome FoundPath) (said : told.Outcome) (arcs : List ℕ)
+  pub shown_in_full : (plan : ℕ) (found : PlanResult FoundPath) (said : Outcome) (arcs : List ℕ)
       (r : Result FullSection NoMemory) → IsResultOf n guide goal m found
-      → said ≡ answer_of found → arcs ≡ arcs_of found
+      → said ≡ outcome_without_arcs found → arcs ≡ arcs_of found
       → IfOk r (λ s. s.plan ≡ plan) → IfOk r (λ s. s.outcome ≡ said) → IfOk r (λ s. s.arcs ≡ arcs)
       → IfOk r (IsOfLabels m guide goal) → IfOk r (λ s. ShowsBound n m.start goal (claim_of s))
       → IfOk r (IsShownInFull n guide m.start goal plan m found)
@@ -133,8 +134,8 @@ module _ (n : Network) (sound : IsSound n) (guide : ℕ → ℕ) (goal : ℕ) (m
   shown_in_full plan found said arcs (Err e) is same_answer same_arcs number says copied made bounds = tt
 
   -- a sparse section
-  sparsely : (plan : ℕ) (found : Outcome FoundPath) (s : SparseSection) → IsResultOf n guide goal m found
-      → s.plan ≡ plan → s.states ≡ states_of m → s.outcome ≡ answer_of found → s.arcs ≡ arcs_of found
+  sparsely : (plan : ℕ) (found : PlanResult FoundPath) (s : SparseSection) → IsResultOf n guide goal m found
+      → s.plan ≡ plan → s.states ≡ states_of m → s.outcome ≡ outcome_without_arcs found → s.arcs ≡ arcs_of found
       → IsOfCutLabels n m guide goal s
       → ShowsBound n m.start goal (sparse_claim guide s) → IsShownSparsely n guide m.start goal plan m found s
   sparsely plan found s is number states says copied made bounds = record {
@@ -145,17 +146,17 @@ module _ (n : Network) (sound : IsSound n) (guide : ℕ → ℕ) (goal : ℕ) (m
     arcs = copied;
     shows = record {
       bound = bounds;
-      outcome = subst (λ (o : told.Outcome). ShowsOutcome n m.start goal (sparse_claim guide s) o) (sym says)
+      outcome = subst (λ (o : Outcome). ShowsOutcome n m.start goal (sparse_claim guide s) o) (sym says)
           (shows_outcome found (sparse_claim guide s) is made.low
-          (λ none u here. subst (λ (o : told.Outcome). IsNeededAt o n m guide s.low u (g_in s.rows u) (v_in s.rows u))
-          (says ∙ ap answer_of none) (made.rows.needed u (subst (λ (count : ℕ). u < count) same here)))
+          (λ none u here. subst (λ (o : Outcome). IsNeededAt o n m guide s.low u (g_in s.rows u) (v_in s.rows u))
+          (says ∙ ap outcome_without_arcs none) (made.rows.needed u (subst (λ (count : ℕ). u < count) same here)))
           bounds copied);
     };
   }
 
-  pub shown_sparsely : (plan : ℕ) (found : Outcome FoundPath) (said : told.Outcome) (arcs : List ℕ)
+  pub shown_sparsely : (plan : ℕ) (found : PlanResult FoundPath) (said : Outcome) (arcs : List ℕ)
       (r : Result SparseSection NoMemory) → IsResultOf n guide goal m found
-      → said ≡ answer_of found → arcs ≡ arcs_of found
+      → said ≡ outcome_without_arcs found → arcs ≡ arcs_of found
       → IfOk r (λ s. s.plan ≡ plan) → IfOk r (λ s. s.states ≡ states_of m) → IfOk r (λ s. s.outcome ≡ said)
       → IfOk r (λ s. s.arcs ≡ arcs) → IfOk r (IsOfCutLabels n m guide goal)
       → IfOk r (λ s. ShowsBound n m.start goal (sparse_claim guide s))

@@ -10,8 +10,8 @@ use Rattle.sbpl_report.specs.declared.record.PathStep.{PathStep}
 use Rattle.sbpl_report.specs.declared.record.PathRecord.{PathRecord}
 use Rattle.sbpl_report.specs.declared.record.ReportPose.{ReportPose}
 use Rattle.sbpl_report.specs.declared.record.ReportPose.TheVariants as report_pose
-use Rattle.sbpl_plan.specs.declared.result.Outcome.{Outcome}
-use Rattle.sbpl_plan.specs.declared.result.Outcome.TheVariants as outcome
+use Rattle.sbpl_plan.specs.declared.result.PlanResult.{PlanResult}
+use Rattle.sbpl_plan.specs.declared.result.PlanResult.TheVariants as outcome
 use Rattle.sbpl_incumbent.specs.declared.entry.Entry.{Entry}
 use Rattle.sbpl_report.specs.declared.record.PlanRecord.{PlanRecord}
 
@@ -47,7 +47,7 @@ unfoldable pub path_text : PathRecord → List ℕ
 path_text p = codes "path " ++ (decimal (length p.steps) ++ (codes " cost " ++ (decimal p.cost ++ (codes " bound " ++ (milli_text p.bound ++ (line_feed ++ (codes "pose " ++ (report_pose_text p.start ++ flat_map step_text p.steps))))))))
 
 -- the lines of a result
-abbrev pub outcome_text : Outcome PathRecord → List ℕ
+abbrev pub outcome_text : PlanResult PathRecord → List ℕ
 outcome_text (outcome.Path p) = path_text p
 outcome_text outcome.NoPath = codes "nopath\n"
 outcome_text outcome.Unknown = codes "unknown\n"
@@ -83,7 +83,7 @@ unfoldable pub demo_text : (states primitives batches : ℕ) → List ℕ
 demo_text states primitives batches = codes "demo states " ++ (decimal states ++ (codes " primitives " ++ (decimal primitives ++ (codes " batches " ++ (decimal batches ++ line_feed)))))
 
 -- a result in one line
-abbrev pub outcome_line : Outcome PathRecord → List ℕ
+abbrev pub outcome_line : PlanResult PathRecord → List ℕ
 outcome_line (outcome.Path p) = codes "path " ++ (decimal (length p.steps) ++ (codes " cost " ++ (decimal p.cost ++ (codes " bound " ++ milli_text p.bound))))
 outcome_line outcome.NoPath = codes "nopath"
 outcome_line outcome.Unknown = codes "unknown"

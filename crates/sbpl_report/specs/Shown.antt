@@ -1,12 +1,14 @@
 -- What the labels that a plan writes say and show.
-use Rattle.std.specs.Prelude.{◌≡◌, ℕ, Bool, true, false, List, [], Option, Some, None}
+use Rattle.std.specs.Prelude.{◌≡◌, ℕ, ◌<◌, Bool, true, false, List, [], Option, Some, None}
+use Rattle.sbpl_plan.specs.sbpl_graph.Certificate.{AreSupported}
 use Rattle.sbpl_plan.specs.sbpl_graph.Network.{Network}
-use Rattle.sbpl_plan.specs.sbpl_labels.Marks.{Marks, states_of}
+use Rattle.sbpl_plan.specs.sbpl_labels.Marks.{Marks, g_of, states_of, v_of}
+use Rattle.sbpl_plan.specs.Outcomes.{IsResultOf}
 use Rattle.sbpl_plan.specs.declared.result.FoundPath.{FoundPath}
-use Rattle.sbpl_plan.specs.declared.result.Outcome.{Outcome}
-use Rattle.sbpl_plan.specs.declared.result.Outcome.TheVariants as outcome
-use Rattle.sbpl_cert.specs.declared.outcome.Outcome as told
-use Rattle.sbpl_cert.specs.declared.outcome.Outcome.TheVariants as answer
+use Rattle.sbpl_plan.specs.declared.result.PlanResult.{PlanResult}
+use Rattle.sbpl_plan.specs.declared.result.PlanResult.TheVariants as result
+use Rattle.sbpl_cert.specs.declared.outcome.Outcome.{Outcome}
+use Rattle.sbpl_cert.specs.declared.outcome.Outcome.TheVariants as outcome
 use Rattle.sbpl_cert.specs.Claims.{claim_of}
 use Rattle.sbpl_cert.specs.Made.{IsOfCutLabels, IsOfLabels}
 use Rattle.sbpl_cert.specs.Sections.{FullSection}
@@ -18,38 +20,48 @@ use Rattle.sbpl_cert.specs.Printed as labels
 use Rattle.sbpl_job.specs.declared.job.LabelForm.{LabelForm}
 use Rattle.sbpl_job.specs.declared.job.LabelForm.TheVariants as form
 
--- what a section says of a result
-abbrev pub answer_of : Outcome FoundPath → told.Outcome
-answer_of (outcome.Path found) = answer.Path found.cost found.bound
-answer_of outcome.NoPath = answer.NoPath
-answer_of outcome.Unknown = answer.Unknown
+-- A plan to this goal has ended with these labels and this result.
+-- states, inside, guides: there is a label for each state of the graph, the goal is one of these, and the guide leads to it
+-- result, supported: the labels give the result, and hold on the graph
+pub record HasEnded (n : Network) (Guides : Network → ℕ → Type 0) (guide : ℕ → ℕ) (goal : ℕ) (final : Marks) (found : PlanResult FoundPath) : Type 0 where
+  pub states : states_of final ≡ n.states
+  pub inside : goal < n.states
+  pub guides : Guides n goal
+  pub result : IsResultOf n guide goal final found
+  pub supported : AreSupported n final.start (g_of final) (v_of final)
+
+-- a result as a section says it: without the arcs of a path
+abbrev pub outcome_without_arcs : PlanResult FoundPath → Outcome
+outcome_without_arcs (result.Path found) = outcome.Path found.cost found.bound
+outcome_without_arcs result.NoPath = outcome.NoPath
+outcome_without_arcs result.Unknown = outcome.Unknown
 
 -- the arcs of the path that a result is, or none
-abbrev pub arcs_of : Outcome FoundPath → List ℕ
-arcs_of (outcome.Path found) = found.arcs
+abbrev pub arcs_of : PlanResult FoundPath → List ℕ
+arcs_of (result.Path found) = found.arcs
 arcs_of _ = []
 
 -- As the written labels show, with a row for each state: the section has the plan's number, the final labels with the guide's
 -- values, the low that they give, and the result; and it shows its bound and its result on the graph.
-pub record IsShownInFull (n : Network) (guide : ℕ → ℕ) (start goal : ℕ) (plan : ℕ) (final : Marks) (found : Outcome FoundPath) (s : FullSection) : Type 0 where
+pub record IsShownInFull (n : Network) (guide : ℕ → ℕ) (start goal : ℕ) (plan : ℕ) (final : Marks) (found : PlanResult FoundPath) (s : FullSection) : Type 0 where
   pub number : s.plan ≡ plan
   pub labels : IsOfLabels final guide goal s
-  pub answer : s.outcome ≡ answer_of found
+  pub answer : s.outcome ≡ outcome_without_arcs found
   pub arcs : s.arcs ≡ arcs_of found
   pub shows : ShowsAll n start goal (claim_of s)
 
 -- The same where states are left out: the section has the labels that are cut to the low, and it shows its bound and its result
 -- with the guide.
-pub record IsShownSparsely (n : Network) (guide : ℕ → ℕ) (start goal : ℕ) (plan : ℕ) (final : Marks) (found : Outcome FoundPath) (s : SparseSection) : Type 0 where
+pub record IsShownSparsely (n : Network) (guide : ℕ → ℕ) (start goal : ℕ) (plan : ℕ) (final : Marks) (found : PlanResult FoundPath) (s : SparseSection) : Type 0 where
   pub number : s.plan ≡ plan
   pub states : s.states ≡ states_of final
   pub labels : IsOfCutLabels n final guide goal s
-  pub answer : s.outcome ≡ answer_of found
+  pub answer : s.outcome ≡ outcome_without_arcs found
   pub arcs : s.arcs ≡ arcs_of found
   pub shows : ShowsAll n start goal (sparse_claim guide s)
 
 -- this is the section that a plan writes in a form
-abbrev pub IsShown : LabelForm → Network → (guide : ℕ → ℕ) → (start goal : ℕ) → (plan : ℕ) → Marks → Outcome FoundPath → Section → Type 0
+abbrev pub IsShown : LabelForm → Network → (guide : ℕ → ℕ) → (start goal : ℕ) → (plan : ℕ) → Marks → PlanResult FoundPath → Section → Type 0
 IsShown form.Full n guide start goal plan final found (Full s) = IsShownInFull n guide start goal plan final found s
 IsShown form.Sparse n guide start goal plan final found (Sparse s) = IsShownSparsely n guide start goal plan final found s
 IsShown _ n guide start goal plan final found _ = ⊥

@@ -3,8 +3,8 @@
 #![tactic(auto)]
 
 mod check_lines;
+mod ended;
 mod labels;
-mod parts;
 mod record;
 mod refusal;
 mod refusal_lines;
@@ -13,9 +13,9 @@ mod sweep_lines;
 mod trace;
 
 pub use check_lines::{flaw_line, holds_line};
+pub use ended::Ended;
 pub use labels::{labels_of, labels_text};
-pub use parts::Steps;
-pub use record::{PathRecord, PathStep, PlanRecord, Raised, ReportPose, TraceLine};
+pub use record::{PathRecord, PathStep, PlanRecord, Raised, ReportPose, Steps, TraceLine};
 pub use refusal::{Input, JobStop, Refusal};
 pub use refusal_lines::{fault_line, refusal_line};
 pub use report::{demo_line, incumbent_line, plan_line};
@@ -72,13 +72,13 @@ pub use sbpl_incumbent::{Board, Entry, Publisher, Reader, told_readers_get_the_n
 
 // Of `sbpl_cert`.
 pub use sbpl_cert::{
-    Flaw, LabelFault, Outcome as LabelOutcome, Section, check, check_sparse, cut_rows_are_one,
-    first_flaws_are_one, labels_message, read_labels, texts_are_sections_or_faulty,
+    Flaw, LabelFault, Outcome, Section, check, check_sparse, cut_rows_are_one, first_flaws_are_one,
+    labels_message, read_labels, texts_are_sections_or_faulty,
 };
 
 // Of `sbpl_plan`.
 pub use sbpl_plan::{
-    Arcs, Ask, Found, FoundPath, Observer, Outcome, PassRecord, Planned, plan_is_determined,
+    Arcs, Ask, Found, FoundPath, Observer, PassRecord, PlanResult, Planned, plan_is_determined,
 };
 
 // Of `sbpl_job`.

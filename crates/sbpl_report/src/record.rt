@@ -1,10 +1,9 @@
 //! What a plan did: its passes and its result.
 
-use crate::parts::Steps;
 use sbpl_cert::Section;
 use sbpl_cost::Place;
 use sbpl_incumbent::Entry;
-use sbpl_plan::{Arcs, ListOf, Outcome, Passes};
+use sbpl_plan::{Arcs, ListOf, Passes, PlanResult};
 
 /// Where a state is, as a report tells it.
 #[derive(Clone, Copy)]
@@ -22,6 +21,9 @@ pub struct PathStep {
     pub id: u32,
     pub report_pose: ReportPose,
 }
+
+/// The steps of a path, in order.
+pub type Steps = ListOf<PathStep>;
 
 /// A line of a trace: one thing that a planner noted.
 #[derive(Clone, Copy)]
@@ -78,7 +80,7 @@ pub struct PlanRecord {
     /// Where the last pass was spent, how many states the plan expanded.
     pub spent: Option<u64>,
     /// Its result.
-    pub outcome: Outcome<PathRecord>,
+    pub outcome: PlanResult<PathRecord>,
     /// The section of the final labels, where they are to be written.
     pub labels: Option<Section>,
     /// The newest path that was published by the end of the plan, if there is one.

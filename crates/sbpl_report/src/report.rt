@@ -7,15 +7,15 @@ use crate::record::{PathRecord, PlanRecord};
 use sbpl_incumbent::Entry;
 use sbpl_job::NoMemory;
 use sbpl_plan::Piece::{Bytes, Milli, Number};
-use sbpl_plan::{Outcome, push_all, push_bytes};
+use sbpl_plan::{PlanResult, push_all, push_bytes};
 use std::alloc::Global;
 
 /// Appends the result of a plan in one line.
-fn push_outcome_line(out: &mut Vec<u8>, outcome: &Outcome<PathRecord>) -> Result<(), NoMemory>
+fn push_outcome_line(out: &mut Vec<u8>, outcome: &PlanResult<PathRecord>) -> Result<(), NoMemory>
     ensures appended { OnOk result (out.new.items ≡ out.old.items ++ outcome_line outcome.now) }
 {
     match outcome {
-        Outcome::Path(path) => push_all(
+        PlanResult::Path(path) => push_all(
             out,
             &[
                 Bytes(b"path "),
@@ -26,8 +26,8 @@ fn push_outcome_line(out: &mut Vec<u8>, outcome: &Outcome<PathRecord>) -> Result
                 Milli(path.bound),
             ],
         ),
-        Outcome::NoPath => push_bytes(out, b"nopath"),
-        Outcome::Unknown => push_bytes(out, b"unknown"),
+        PlanResult::NoPath => push_bytes(out, b"nopath"),
+        PlanResult::Unknown => push_bytes(out, b"unknown"),
     }
 }
 

@@ -6,7 +6,7 @@ ghost use Rattle.sbpl_promises.specs.sbpl_report.Report.{section_text, spent_tex
 
 use sbpl_promises::Piece::{Bytes, Milli, Number};
 use sbpl_promises::{
-    Found, NoMemory, Outcome, PassRecord, PathRecord, PathStep, Place, PlanRecord, ReportPose,
+    Found, NoMemory, PassRecord, PathRecord, PathStep, Place, PlanRecord, PlanResult, ReportPose,
     TraceLine, push_all, push_bytes,
 };
 use std::alloc::Global;
@@ -139,13 +139,13 @@ fn push_path(out: &mut Vec<u8>, path: &PathRecord) -> Result<(), NoMemory>
 }
 
 /// Appends the lines of a result.
-fn push_outcome(out: &mut Vec<u8>, outcome: &Outcome<PathRecord>) -> Result<(), NoMemory>
+fn push_outcome(out: &mut Vec<u8>, outcome: &PlanResult<PathRecord>) -> Result<(), NoMemory>
     ensures appended { OnOk result (out.new.items ≡ out.old.items ++ outcome_text outcome.now) }
 {
     match outcome {
-        Outcome::Path(path) => push_path(out, path),
-        Outcome::NoPath => push_bytes(out, b"nopath\n"),
-        Outcome::Unknown => push_bytes(out, b"unknown\n"),
+        PlanResult::Path(path) => push_path(out, path),
+        PlanResult::NoPath => push_bytes(out, b"nopath\n"),
+        PlanResult::Unknown => push_bytes(out, b"unknown\n"),
     }
 }
 

@@ -2,7 +2,8 @@
 
 use crate::workspace::Workspace;
 use sbpl_promises::{
-    FoundPath, Graph, Nav, NoMemory, Octile, Outcome, PathStep, Place, ReportPose, worlds_are_grids,
+    FoundPath, Graph, Nav, NoMemory, Octile, PathStep, Place, PlanResult, ReportPose,
+    worlds_are_grids,
 };
 use std::alloc::Global;
 
@@ -53,8 +54,8 @@ impl Workspace for Nav {
         _alloc: Global,
         _start: u32,
         _goal: u32,
-        found: Outcome<FoundPath>,
-    ) -> Result<Outcome<FoundPath>, NoMemory> {
+        found: PlanResult<FoundPath>,
+    ) -> Result<PlanResult<FoundPath>, NoMemory> {
         Ok(found)
     }
 

@@ -71,11 +71,11 @@ pub use sbpl_promises::{Epase, Gate, NoGate, Parts, parallel_pass_parts};
 
 // Of `sbpl_cert`.
 pub use sbpl_promises::{
-    Flaw, LabelFault, LabelOutcome, Section, check, check_sparse, labels_message, read_labels,
+    Flaw, LabelFault, Outcome, Section, check, check_sparse, labels_message, read_labels,
 };
 
 // Of `sbpl_plan`.
-pub use sbpl_promises::{Arcs, Ask, FoundPath, Observer, Outcome, Planned};
+pub use sbpl_promises::{Arcs, Ask, FoundPath, Observer, PlanResult, Planned};
 
 // Of `sbpl_replan`.
 pub use sbpl_promises::Session;
@@ -88,8 +88,8 @@ pub use sbpl_promises::{
 
 // Of `sbpl_report`.
 pub use sbpl_promises::{
-    Input, JobStop, PathRecord, PlanRecord, Raised, Refusal, Steps, Traced, demo_line, fault_line,
-    flaw_line, holds_line, labels_of, listing_at, refusal_line, traced_passes,
+    Ended, Input, JobStop, PathRecord, PlanRecord, Raised, Refusal, Steps, Traced, demo_line,
+    fault_line, flaw_line, holds_line, labels_of, listing_at, refusal_line, traced_passes,
 };
 
 // Of `sbpl_promises`.

@@ -2,7 +2,7 @@
 
 use crate::workspace::Workspace;
 use sbpl_promises::{
-    Best, FoundPath, Graph, Lattice, NoMemory, Outcome, PathStep, Place, ReportPose, Terrain,
+    Best, FoundPath, Graph, Lattice, NoMemory, PathStep, Place, PlanResult, ReportPose, Terrain,
     lattice_has_its_arcs, lattice_tails_are_in_order, place_at,
 };
 use std::alloc::Global;
@@ -52,8 +52,8 @@ impl Workspace for Lattice {
         _alloc: Global,
         _start: u32,
         _goal: u32,
-        found: Outcome<FoundPath>,
-    ) -> Result<Outcome<FoundPath>, NoMemory> {
+        found: PlanResult<FoundPath>,
+    ) -> Result<PlanResult<FoundPath>, NoMemory> {
         Ok(found)
     }
 

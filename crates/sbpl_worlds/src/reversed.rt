@@ -7,7 +7,7 @@ ghost use Rattle.sbpl_promises.specs.sbpl_graph.Path.{IsFreePath};
 
 use crate::workspace::Workspace;
 use sbpl_promises::{
-    Arcs, FoundPath, FromStart, Graph, Lattice, NoMemory, Outcome, PathStep, Place, ReportPose,
+    Arcs, FoundPath, FromStart, Graph, Lattice, NoMemory, PathStep, Place, PlanResult, ReportPose,
     Reversed, Terrain, paths_turn_round, turned_round,
 };
 use std::alloc::Global;
@@ -69,15 +69,18 @@ impl Workspace for Reversed {
         alloc: Global,
         start: u32,
         goal: u32,
-        found: Outcome<FoundPath>,
-    ) -> Result<Outcome<FoundPath>, NoMemory> {
+        found: PlanResult<FoundPath>,
+    ) -> Result<PlanResult<FoundPath>, NoMemory> {
         paths_turn_round();
         let lattice = self.lattice();
         let _states = lattice.states();
         match found {
-            Outcome::Path(path) => Ok(Outcome::Path(turn_path(alloc, lattice, start, goal, path)?)),
-            Outcome::NoPath => Ok(Outcome::NoPath),
-            Outcome::Unknown => Ok(Outcome::Unknown),
+            PlanResult::Path(path) => {
+                let turned = turn_path(alloc, lattice, start, goal, path)?;
+                Ok(PlanResult::Path(turned))
+            }
+            PlanResult::NoPath => Ok(PlanResult::NoPath),
+            PlanResult::Unknown => Ok(PlanResult::Unknown),
         }
     }
 

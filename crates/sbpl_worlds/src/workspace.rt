@@ -9,7 +9,7 @@ ghost use Rattle.sbpl_promises.specs.Sites.{Leads, WordPlacesAlike, Reporting, f
 ghost use Rattle.sbpl_promises.specs.sbpl_plan.Outcomes.{IsTrueOutcome};
 
 use sbpl_promises::{
-    FoundPath, Heuristic, NoMemory, Outcome, PathStep, Place, ReportPose, Terrain,
+    FoundPath, Heuristic, NoMemory, PathStep, Place, PlanResult, ReportPose, Terrain,
 };
 use std::alloc::Global;
 
@@ -61,8 +61,8 @@ pub trait Workspace: Terrain {
         alloc: Global,
         start: u32,
         goal: u32,
-        found: Outcome<FoundPath>,
-    ) -> Result<Outcome<FoundPath>, NoMemory>
+        found: PlanResult<FoundPath>,
+    ) -> Result<PlanResult<FoundPath>, NoMemory>
         requires start { start < (reporting.told self.now).states }
         requires goal { goal < (reporting.told self.now).states }
         requires so { IsTrueOutcome (Self.network self.now) (from_of reporting.back start goal)

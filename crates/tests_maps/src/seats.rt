@@ -8,7 +8,7 @@ ghost use Rattle.sbpl_epase.specs.Making.{CanPass, Leaves};
 
 use sbpl_epase::{Epase, Event, NoGate, Parts, parallel_pass_parts};
 use sbpl_heur::{Best, Lattice};
-use sbpl_plan::{Ask, Budget, Graph, Inquiry, Nobody, Outcome, Planned, plan};
+use sbpl_plan::{Ask, Budget, Graph, Inquiry, Nobody, PlanResult, Planned, plan};
 use std::alloc::Global;
 use std::sync::Wait;
 use std::thread::Threads;
@@ -37,7 +37,7 @@ fn workers_at(eps: u32) -> u32
 /// How many passes a plan made, and the cost of its path.
 fn told(planned: &Planned<Event>) -> Option<(usize, u64)> {
     match &planned.outcome {
-        Outcome::Path(path) => Some((planned.passes.as_slice().len(), path.cost)),
+        PlanResult::Path(path) => Some((planned.passes.as_slice().len(), path.cost)),
         _ => None,
     }
 }

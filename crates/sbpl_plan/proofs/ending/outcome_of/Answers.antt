@@ -1,7 +1,7 @@
 use Rattle.std.proofs.Common.{◌≡◌, ◌⊎◌, inl, inr}
 use Rattle.sbpl_plan.specs.declared.found.Found.{Found}
 use Rattle.sbpl_plan.specs.declared.found.Found.TheVariants as found
-use Rattle.sbpl_plan.specs.declared.result.Outcome.TheVariants as outcome
+use Rattle.sbpl_plan.specs.declared.result.PlanResult.TheVariants as outcome
 use Rattle.sbpl_plan.specs.Outcomes.{AgreesWithFound}
 use Rattle.sbpl_plan.proofs.Results.{cut_or_unknown}
 use Rattle.sbpl_plan.proofs.ending.outcome_of.Goals as goal

@@ -5,7 +5,7 @@ use Rattle.sbpl_search.specs.State.{State}
 use Rattle.sbpl_plan.specs.declared.found.Found.{Found}
 use Rattle.sbpl_plan.specs.declared.passes.PassRecord.{PassRecord}
 use Rattle.sbpl_plan.specs.declared.result.FoundPath.{FoundPath}
-use Rattle.sbpl_plan.specs.declared.result.Outcome.{Outcome}
+use Rattle.sbpl_plan.specs.declared.result.PlanResult.{PlanResult}
 use Rattle.sbpl_plan.specs.Asked.{lowered}
 use Rattle.sbpl_plan.specs.Looking.{WalkFinds}
 use Rattle.sbpl_plan.specs.Outcomes.{IsResultOf}
@@ -31,7 +31,7 @@ ends_back q eps {m = m} {goal = goal} spent found labels same last =
     (subst (λ (x : Marks). EndsPlan q eps x spent found) (sym labels) last)
 
 result_so : (n : Network) (h : ℕ → ℕ) {m m' : Marks} {goal goal' : ℕ} (arcs : List ℕ) (found : Found)
-    (o : Outcome FoundPath) → m ≡ m' → goal ≡ goal' → WalkFinds n h goal' m' arcs found
+    (o : PlanResult FoundPath) → m ≡ m' → goal ≡ goal' → WalkFinds n h goal' m' arcs found
     → (WalkFinds n h goal m arcs found → IsResultOf n h goal m o) → IsResultOf n h goal' m' o
 result_so n h {m} {m'} {goal} {goal'} arcs found o labels same finds so =
     subst (λ (t : ℕ). IsResultOf n h t m' o) same

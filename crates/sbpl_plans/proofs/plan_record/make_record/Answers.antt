@@ -140,30 +140,34 @@ guided : {Action H W : Type 0} {means : Meaning Action} {network : W → Network
 guided is_made_for says distance so s from to ready between =
     subst (λ (t : ℕ). says s.world t (distance s.guide)) between.to_is (so s.guide s.world s.search.goal ready.made)
 
-pub section_of-requires-clause-goal : goal.section_of-requires-clause-goal
-section_of-requires-clause-goal g c =
+pub section_of-requires : goal.section_of-requires
+section_of-requires g c =
     let task = c.args.task.now in
+    let back = g.W.Workspace.reporting.back in
     let w = c.args.session.now.world in
-    let told = (g.W.Workspace.reporting.told w).states in
-    let as_many = g.met.W.Workspace.same_states w in
-    let there =
-    to_inside g.W.Workspace.reporting.back c.args.turn.start task.goal told c.requires.start c.requires.goal in
-    let to = c.in_ok-planned.ensures.same.goal ∙ c.requires.set.between.to_is in
-    rw c.plan.ensures.world (subst (λ (t : ℕ). t < (g.W.Graph.network w).states) (sym to)
-    (subst (λ (n : ℕ). to_of g.W.Workspace.reporting.back c.args.turn.start task.goal < n) as_many there))
-
-pub section_of-requires-clause-found : goal.section_of-requires-clause-found
-section_of-requires-clause-found g c =
-    let n = g.W.Graph.network c.args.session.now.world in
+    let n = g.W.Graph.network w in
     let made = c.in_ok-planned.ensures.planned in
+    let ready = c.in_ok-planned.ensures.ready in
     let new = c.plan.new.self in
-    rw c.plan.ensures.world (subst (λ (h : ℕ → ℕ). IsResultOf n h new.search.goal new.search.labels
-    c.in_ok-planned.planned.outcome) (ap g.W.Best.Guide.distance (sym c.plan.ensures.guide))
-    (subst (λ (t : ℕ). IsResultOf n (g.W.Best.Guide.distance c.args.session.now.guide) t new.search.labels
-    c.in_ok-planned.planned.outcome) (sym c.in_ok-planned.ensures.same.goal) made.outcome))
-
-pub section_of-requires-clause-supported : goal.section_of-requires-clause-supported
-section_of-requires-clause-supported g c = rw c.plan.ensures.world c.in_ok-planned.ensures.planned.supported
+    let guide = g.W.Best.Guide.distance c.args.session.now.guide in
+    let to = c.in_ok-planned.ensures.same.goal ∙ c.requires.set.between.to_is in
+    let inside : to_of back c.args.turn.start task.goal < n.states =
+    subst (λ (k : ℕ). to_of back c.args.turn.start task.goal < k) (g.met.W.Workspace.same_states w)
+    (to_inside back c.args.turn.start task.goal (g.W.Workspace.reporting.told w).states c.requires.start c.requires.goal) in
+    record {
+      ended = record {
+        states =
+            (g.met.S.Search.usable (g.W.Graph.network new.world) new.search.labels new.counts.run ready.labels).states;
+        inside = rw c.plan.ensures.world (subst (λ (t : ℕ). t < n.states) (sym to) inside);
+        guides = g.met.W.Best.Heuristic.guides_there new.guide new.world new.search.goal ready.made;
+        result =
+            rw c.plan.ensures.world (subst (λ (h : ℕ → ℕ). IsResultOf n h new.search.goal new.search.labels
+            c.in_ok-planned.planned.outcome) (ap g.W.Best.Guide.distance (sym c.plan.ensures.guide))
+            (subst (λ (t : ℕ). IsResultOf n guide t new.search.labels c.in_ok-planned.planned.outcome)
+            (sym c.in_ok-planned.ensures.same.goal) made.outcome));
+        supported = rw c.plan.ensures.world made.supported;
+      };
+    }
 
 pub record_of-requires-clause-start : goal.record_of-requires-clause-start
 record_of-requires-clause-start g c = rw (c.world.ensures.value, c.plan.ensures.world) c.requires.start

@@ -49,4 +49,4 @@ returns g c =
     let done =
     subst (λ (l : List ℕ). Completes on w c.args.from c.args.arcs.now c.loop-arc.at l c.loop-arc.steps.items) over
     c.loop-arc.invariant.done in
-    record { steps = rw c.of.ensures.steps (all_done on w _ c.loop-arc.at _ _ done) }
+    record { steps = rw c.of.ensures.items (all_done on w _ c.loop-arc.at _ _ done) }

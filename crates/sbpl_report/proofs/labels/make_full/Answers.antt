@@ -12,15 +12,19 @@ use Rattle.sbpl_report.proofs.labels.make_full.Goals as goal
 
 pub section_of-requires-clause-outcome : goal.section_of-requires-clause-outcome
 section_of-requires-clause-outcome g c =
-    rw c.answer_of-answer.ensures.answer (answer_fits (g.G.Graph.network c.args.graph.now) c.states-states.ensures.sound
-    (g.H.Guide.distance c.args.guide.now) c.args.goal c.args.labels.now c.requires.states c.requires.goal
-    c.requires.supported c.args.found.now c.requires.found)
+    let e = c.args.ended.now in
+    let is = c.requires.ended in
+    rw c.outcome_without_arcs-outcome.ensures.outcome (answer_fits (g.G.Graph.network e.graph.now)
+    c.states-states.ensures.sound (g.H.Guide.distance e.guide.now) e.goal e.labels.now is.states is.inside is.supported
+    e.found.now is.result)
 
 pub section_of-requires-clause-arcs : goal.section_of-requires-clause-arcs
 section_of-requires-clause-arcs g c =
-    rw (c.answer_of-answer.ensures.answer, c.in_ok-arcs.ensures.arcs) (arcs_fit (g.G.Graph.network c.args.graph.now)
-    c.states-states.ensures.sound (g.H.Guide.distance c.args.guide.now) c.args.goal c.args.labels.now c.requires.states
-    c.requires.goal c.requires.supported c.args.found.now c.requires.found)
+    let e = c.args.ended.now in
+    let is = c.requires.ended in
+    rw (c.outcome_without_arcs-outcome.ensures.outcome, c.in_ok-arcs.ensures.arcs)
+    (arcs_fit (g.G.Graph.network e.graph.now) c.states-states.ensures.sound (g.H.Guide.distance e.guide.now) e.goal
+    e.labels.now is.states is.inside is.supported e.found.now is.result)
 
 -- the section shows its bound on the graph
 bounds_on : (Guides : Network → ℕ → Type 0) (n : Network) (m : Marks) (goal : ℕ) (r : Result FullSection NoMemory)
@@ -32,13 +36,15 @@ bounds_on Guides n m goal (Ok s) same sound guides supported shows = shows n sam
 bounds_on Guides n m goal (Err e) same sound guides supported shows = tt
 
 pub returns : goal.returns
-returns g c = record {
-  shown =
-      shown_in_full (g.G.Graph.network c.args.graph.now) c.states-states.ensures.sound
-      (g.H.Guide.distance c.args.guide.now) c.args.goal c.args.labels.now c.requires.states c.requires.goal
-      c.requires.supported c.args.plan c.args.found.now _ _ c.section_of.result c.requires.found
-      c.answer_of-answer.ensures.answer c.in_ok-arcs.ensures.arcs c.section_of.ensures.plan c.section_of.ensures.outcome
-      c.section_of.ensures.arcs c.section_of.ensures.labels
-      (bounds_on (g.H.Guide.guides c.args.guide.now) _ _ _ _ (sym c.requires.states) c.states-states.ensures.sound
-      c.requires.guides c.requires.supported c.section_of.ensures.shows);
-}
+returns g c =
+    let e = c.args.ended.now in
+    let is = c.requires.ended in
+    record {
+      shown =
+          shown_in_full (g.G.Graph.network e.graph.now) c.states-states.ensures.sound (g.H.Guide.distance e.guide.now)
+          e.goal e.labels.now is.states is.inside is.supported e.plan e.found.now _ _ c.section_of.result is.result
+          c.outcome_without_arcs-outcome.ensures.outcome c.in_ok-arcs.ensures.arcs c.section_of.ensures.plan
+          c.section_of.ensures.outcome c.section_of.ensures.arcs c.section_of.ensures.labels
+          (bounds_on (g.H.Guide.guides e.guide.now) _ _ _ _ (sym is.states) c.states-states.ensures.sound is.guides
+          is.supported c.section_of.ensures.shows);
+    }

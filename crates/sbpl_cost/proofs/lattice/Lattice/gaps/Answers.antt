@@ -1,5 +1,4 @@
 use Rattle.std.proofs.Common.{◌≡◌, ◌∙◌, ap, sym}
-use Rattle.sbpl_sweep.specs.sbpl_cfg.Environment.{Environment}
 use Rattle.sbpl_cost.specs.Lattices.{network_of, states_are}
 use Rattle.sbpl_cost.specs.Rates.{state_gap, table_of}
 use Rattle.sbpl_cost.specs.States.{place_of, state_count}
@@ -10,8 +9,7 @@ use Rattle.sbpl_cost.proofs.lattice.Lattice.gaps.Goals as goal
 
 pub returns-clause-states : goal.returns-clause-states
 returns-clause-states c =
-    ap state_count c.copy_of.ensures.same ∙ ap (λ (w : World). state_count w.env) c.self.view_is
-    ∙ sym (states_are c.args.self.now)
+    ap (λ (w : World). state_count w.env) c.self.view_is ∙ sym (states_are c.args.self.now)
 
 pub returns-clause-gap : goal.returns-clause-gap
 returns-clause-gap c =
@@ -21,5 +19,4 @@ returns-clause-gap c =
     let w : World = record { env = env; prims = c.self.inside.prims; sweeps = c.self.inside.sweeps; map = c.self.inside.map } in
     let here : state_gap (table_of env gaps) ≡ (network_of w).gap =
     (λ i a b. (gap_by_is env prims gaps c.self.invariant.fractions (place_of env a) (place_of env b) ∙ sym (gap_is w a b)) i) in
-    ap (λ (e : Environment). state_gap (table_of e gaps)) c.copy_of.ensures.same ∙ here
-    ∙ ap (λ (v : World). (network_of v).gap) c.self.view_is
+    here ∙ ap (λ (v : World). (network_of v).gap) c.self.view_is

@@ -4,7 +4,7 @@ use Rattle.sbpl_promises.specs.sbpl_cost.Lattices.{network_of}
 use Rattle.sbpl_promises.specs.sbpl_cost.World.{World}
 use Rattle.sbpl_promises.specs.sbpl_graph.Laws.{HasExactTails, IsSound}
 use Rattle.sbpl_promises.specs.sbpl_plan.declared.result.FoundPath.{FoundPath}
-use Rattle.sbpl_promises.specs.sbpl_plan.declared.result.Outcome.{Outcome}
+use Rattle.sbpl_promises.specs.sbpl_plan.declared.result.PlanResult.{PlanResult}
 use Rattle.sbpl_promises.specs.sbpl_plan.Outcomes.{IsTrueOutcome}
 use Rattle.sbpl_worlds.proofs.reversed.ReversedWorkspace.turn.Goals as goal
 
@@ -19,6 +19,6 @@ returns-in-NoPath-clause-so c = λ arcs cost free.
     let back =
     c.paths_turn_round.ensures.backwards n c.args.start c.args.goal cost arcs sound tails free in
     let none =
-    subst (λ (o : Outcome FoundPath). IsTrueOutcome (reversed n) c.args.goal c.args.start o)
+    subst (λ (o : PlanResult FoundPath). IsTrueOutcome (reversed n) c.args.goal c.args.start o)
     c.in-NoPath.is c.requires.so in
     none back.0 cost back.2
