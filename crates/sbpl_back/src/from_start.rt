@@ -74,10 +74,7 @@ impl Guide for FromStart {
 
 impl Heuristic<Reversed> for FromStart {
     ghost use Rattle.std.specs.Prelude.{false};
-    ghost use Rattle.sbpl_cost.specs.Lattices.{network_of};
-    ghost use Rattle.sbpl_back.specs.Starts.{IsGapFrom, IsMadeFrom};
-
-    ghost says = { λ w goal guide. IsGapFrom (network_of w) goal guide };
+    ghost use Rattle.sbpl_back.specs.Starts.{IsMadeFrom};
 
     ghost is_made_for = { IsMadeFrom };
 
@@ -93,6 +90,4 @@ impl Heuristic<Reversed> for FromStart {
     }
 
     ghost guides_there = { λ f w goal made. made.guides };
-
-    ghost says_so = { λ f w goal made. made.gaps };
 }

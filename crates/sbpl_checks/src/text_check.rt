@@ -5,7 +5,7 @@ ghost use Rattle.sbpl_worlds.specs.sbpl_fixed.Formats.{start_at};
 ghost use Rattle.sbpl_worlds.specs.sbpl_promises.Causes.{AreUpdatesIn};
 ghost use Rattle.sbpl_worlds.specs.sbpl_promises.Checked.{Case, case_of};
 ghost use Rattle.sbpl_checks.specs.Checking.{EndsSections, EndsText, HoldsInCase, IsPlanIn};
-ghost use Rattle.sbpl_worlds.specs.sbpl_promises.Sites.{site_of, to_of};
+ghost use Rattle.sbpl_worlds.specs.sbpl_promises.Sites.{to_on};
 ghost use Rattle.sbpl_worlds.specs.sbpl_promises.Writing.{IsOutput, WritesOnly};
 
 use crate::check_next::{check_next, tell_fault};
@@ -43,16 +43,15 @@ fn check_plan<D: Desk, W: Workspace>(
 ) -> Result<usize, Ending>
     requires start { start < (W.reporting.told world.now).states }
     requires goal { goal < (W.reporting.told world.now).states }
-    requires made { W.Best.is_made_for guide.now world.now (to_of W.reporting.back start goal) }
+    requires made { W.Best.is_made_for guide.now world.now (to_on W.Workspace start goal) }
     requires at { at ≤ length labels.now.text.now }
     ensures inside { IfOk result (λ next. next ≤ length labels.now.text.now) }
-    ensures holds { (c : Case (site_of W.network W.cells W.Best.says W.reporting)) → IsPlanIn c plan world.now start goal
+    ensures holds { (c : Case W.Workspace) → IsPlanIn c plan world.now start goal
         → IfOk result (λ next. HoldsInCase c plan (start_at labels.now.text.now at) (start_at labels.now.text.now next)
         (D.state desk.old) (D.state desk.new)) }
-    ensures ends { (c : Case (site_of W.network W.cells W.Best.says W.reporting)) (more : ℕ)
-        → IsPlanIn c plan world.now start goal
-        → IfErr result (EndsSections c plan (suc more) (start_at labels.now.text.now at) labels.now (D.state desk.old)
-        (D.state desk.new)) }
+    ensures ends { (c : Case W.Workspace) (more : ℕ) → IsPlanIn c plan world.now start goal
+        → IfErr result (EndsSections c plan (suc more) (start_at labels.now.text.now at) labels.now
+        (D.state desk.old) (D.state desk.new)) }
     ensures frame { WritesOnly IsOutput (D.state desk.old) (D.state desk.new) }
 {
     let (from, to) = W::way(start, goal);
@@ -92,12 +91,10 @@ fn check_sections<D: Desk, W: Workspace>(
     requires start { start < (W.reporting.told world.old).states }
     requires goal { goal < (W.reporting.told world.old).states }
     requires kept { W.cells.is_made world.old }
-    requires updates { (moving : Bool)
-        × AreUpdatesIn (site_of W.network W.cells W.Best.says W.reporting) moving world.old updates.now }
-    requires made { W.Best.is_made_for guide.old world.old (to_of W.reporting.back start goal) }
-    ensures ends { EndsSections (case_of (site_of W.network W.cells W.Best.says W.reporting) world.old updates.now start goal)
-        0 (suc (length updates.now.batches)) (start_at labels.now.text.now 0) labels.now (D.state desk.old)
-        (D.state desk.new) result }
+    requires updates { (moving : Bool) × AreUpdatesIn W.Workspace moving world.old updates.now }
+    requires made { W.Best.is_made_for guide.old world.old (to_on W.Workspace start goal) }
+    ensures ends { EndsSections (case_of W.Workspace world.old updates.now start goal) 0 (suc (length updates.now.batches))
+        (start_at labels.now.text.now 0) labels.now (D.state desk.old) (D.state desk.new) result }
     ensures frame { WritesOnly IsOutput (D.state desk.old) (D.state desk.new) }
 {
     W::is_terrain();
@@ -139,11 +136,9 @@ pub fn check_text<D: Desk, W: Workspace>(
     requires start { start < (W.reporting.told world.old).states }
     requires goal { goal < (W.reporting.told world.old).states }
     requires kept { W.cells.is_made world.old }
-    requires updates { (moving : Bool)
-        × AreUpdatesIn (site_of W.network W.cells W.Best.says W.reporting) moving world.old updates.now }
-    ensures ends { EndsSections (case_of (site_of W.network W.cells W.Best.says W.reporting) world.old updates.now start goal)
-        0 (suc (length updates.now.batches)) (start_at labels.now.text.now 0) labels.now (D.state desk.old)
-        (D.state desk.new) result }
+    requires updates { (moving : Bool) × AreUpdatesIn W.Workspace moving world.old updates.now }
+    ensures ends { EndsSections (case_of W.Workspace world.old updates.now start goal) 0 (suc (length updates.now.batches))
+        (start_at labels.now.text.now 0) labels.now (D.state desk.old) (D.state desk.new) result }
     ensures frame { WritesOnly IsOutput (D.state desk.old) (D.state desk.new) }
 {
     let (_from, to) = W::way(start, goal);

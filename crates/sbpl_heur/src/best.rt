@@ -132,9 +132,7 @@ impl Best {
 
 impl Heuristic<Lattice> for Best {
     ghost use Rattle.std.specs.Prelude.{true};
-    ghost use Rattle.sbpl_heur.specs.Bests.{IsBest, IsBestGuide};
-
-    ghost says = { IsBest };
+    ghost use Rattle.sbpl_heur.specs.Bests.{IsBestGuide};
 
     ghost is_made_for = { λ b w goal. IsBestGuide w goal b };
 
@@ -149,8 +147,6 @@ impl Heuristic<Lattice> for Best {
     }
 
     ghost guides_there = { λ b w goal made. made.guides };
-
-    ghost says_so = { λ b w goal made. made.best };
 }
 
 impl Guide for Best {

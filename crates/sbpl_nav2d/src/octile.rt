@@ -88,9 +88,7 @@ impl Guide for Octile {
 
 impl Heuristic<Nav> for Octile {
     ghost use Rattle.std.specs.Prelude.{false};
-    ghost use Rattle.sbpl_nav2d.specs.Guides.{IsOctile, IsOctileFor};
-
-    ghost says = { IsOctile };
+    ghost use Rattle.sbpl_nav2d.specs.Guides.{IsOctileFor};
 
     ghost is_made_for = { IsOctileFor };
 
@@ -105,6 +103,4 @@ impl Heuristic<Nav> for Octile {
     }
 
     ghost guides_there = { λ o w goal made. made.guides };
-
-    ghost says_so = { λ o w goal made s inside. made.guides.gaps s };
 }

@@ -94,10 +94,6 @@ stands_so Told So so (inr cut) =
       cut = cut.cut;
     })
 
-pub on_err_so : {A E : Type 0} (P Q : Type 0) (r : Result A E) → (P → Q) → OnErr r P → OnErr r Q
-on_err_so P Q (Ok x) so h = tt
-on_err_so P Q (Err e) so h = so h
-
 pub on_err_is : {A E : Type 0} (P : Type 0) (r : Result A E) → P → OnErr r P
 on_err_is P (Ok x) h = tt
 on_err_is P (Err e) h = h

@@ -15,7 +15,7 @@ use Rattle.sbpl_worlds.specs.sbpl_labels.Marks.{Marks}
 use Rattle.sbpl_worlds.specs.sbpl_map.CellMap.{CellMap}
 use Rattle.sbpl_worlds.specs.sbpl_map.MapAfter.{AreWritten, IsMapAfter}
 use Rattle.sbpl_worlds.specs.sbpl_map.declared.write.Write as change
-use Rattle.sbpl_worlds.specs.sbpl_promises.Asked.{PlannerOn, from_by, planner_as_is, to_by}
+use Rattle.sbpl_worlds.specs.sbpl_promises.Asked.{PlannerOn, planner_as_is, to_by}
 use Rattle.sbpl_worlds.specs.sbpl_promises.Sites.{Site, from_of}
 use Rattle.sbpl_worlds.specs.sbpl_search.State.{State}
 use Rattle.sbpl_worlds.specs.sbpl_replan.Replanning.{BeginsWith, IsAimed, Standing, StaysTheSame}
@@ -67,9 +67,9 @@ module _ {W : Type 0} (plans : Plans W) where
     pub after : IsMapAfter (by.on.cells.map w) batches k (by.on.cells.map now)
     pub kept : by.on.cells.is_made now
     pub start_is : start ≡ starts k
-    pub set : IsSetFor how (from_by by start goal) (to_by by start goal) r
+    pub set : IsSetFor by.on how start goal r
     pub before : Option Carried
-    pub goes_on : GoesOnFrom by.means by.on now (from_by by start goal) before r
+    pub goes_on : GoesOnFrom by.means by.on now start goal before r
     pub ends : (c : DeskState) (status : ℕ) (shown : List Entry) → Ends k log shown before b c status
         → Ends 0 first shown None a c status
 
@@ -163,8 +163,8 @@ module _ {W : Type 0} {plans : Plans W} where
 
   pub sets_out : {start : ℕ} {log : List Entry} {r : Standing by.Action} {a : DeskState}
       → IsTerrain by.on.network by.on.cells → IsMapAfter (by.on.cells.map w) batches 0 (by.on.cells.map w)
-      → by.on.cells.is_made w → start ≡ starts 0 → IsSetFor how (from_by by start goal) (to_by by start goal) r
-      → GoesOnFrom by.means by.on w (from_by by start goal) None r
+      → by.on.cells.is_made w → start ≡ starts 0 → IsSetFor by.on how start goal r
+      → GoesOnFrom by.means by.on w start goal None r
       → IsGoing plans w 0 start log log r a a
   sets_out law first kept start_is set begun = record {
     same = sym (law.present w);
@@ -212,7 +212,7 @@ module _ {W : Type 0} {plans : Plans W} where
     -- what holds of the plan that is made next
     abbrev pub NextEnds : Result (Unit {0}) WriteStop → Type 0
     NextEnds result =
-        (before : Option Carried) → GoesOnFrom by.means by.on now (from_by by start goal) before r
+        (before : Option Carried) → GoesOnFrom by.means by.on now start goal before r
         → EndsOnePlan by written_of now how outputs start goal k log shown before
         (carried_of (by.on.cells.map now) s) b c result
 
@@ -260,7 +260,7 @@ module _ {W : Type 0} {plans : Plans W} where
         → (next : W) (next_start : ℕ) (t u : Standing by.Action) (batch : List change.Write)
         → ((first m m' : CellMap) (bs : List (List change.Write)) (n : ℕ) (l : List change.Write)
         → IsMapAfter first bs n m → slice_get bs n ≡ Some l → AreWritten m l m' → IsMapAfter first bs (n + 1) m')
-        → NextEnds (Ok tt) → NoneFalls b.write_faults c.write_faults → IsSetFor how (from_by by start goal) (to_by by start goal) s
+        → NextEnds (Ok tt) → NoneFalls b.write_faults c.write_faults → IsSetFor by.on how start goal s
         → slice_get batches k ≡ Some batch → AreWritten (by.on.cells.map now) batch (by.on.cells.map next)
         → next ≡ by.on.cells.over now (by.on.cells.map next) → by.on.cells.is_made next
         → BeginsWith by.means by.on.network by.on.cells now next s.search.labels t.search.labels

@@ -7,38 +7,39 @@ use Rattle.sbpl_worlds.specs.sbpl_job.declared.job.Outputs.{Outputs}
 use Rattle.sbpl_worlds.specs.sbpl_job.declared.job.SearchJob.{SearchJob}
 use Rattle.sbpl_worlds.specs.sbpl_replan.Replanning.{GoesBetween, Standing}
 use Rattle.sbpl_worlds.specs.sbpl_report.declared.record.PlanRecord.{PlanRecord}
-use Rattle.sbpl_worlds.specs.sbpl_graph.Network.{Network}
 use Rattle.sbpl_worlds.specs.sbpl_labels.Marks.{AreInitial}
 use Rattle.sbpl_worlds.specs.sbpl_search.Meaning.{Meaning}
 use Rattle.sbpl_worlds.specs.sbpl_search.Ready.{IsStartFresh}
 use Rattle.sbpl_worlds.specs.sbpl_search.State.{State}
 use Rattle.sbpl_worlds.specs.sbpl_promises.Asked.{PlannerOn}
-use Rattle.sbpl_worlds.specs.sbpl_promises.Sites.{Site}
+use Rattle.sbpl_worlds.specs.sbpl_promises.Sites.{Site, from_on, to_on}
 use Rattle.sbpl_worlds.specs.sbpl_plan.declared.found.Found.{Found}
 use Rattle.sbpl_worlds.specs.sbpl_promises.Headline.{Begins, Carried, IsBrokenOff, IsPlanOf, expanded_before}
 use Rattle.sbpl_worlds.specs.sbpl_promises.Published.{Entry, with_paths, with_plan}
 use Rattle.sbpl_worlds.specs.sbpl_promises.Writing.{AreAppended, DeskState, EndsIn, Stays, Write}
 
--- a search that has made no pass yet, on a graph, from the one state to the other
-pub record IsNewSearch {Action : Type 0} (means : Meaning Action) (n : Network) (from to : ℕ) (s : State Action) : Type 0 where
-  pub initial : AreInitial s.labels n.states from
+-- a search that has made no pass yet, in a world of a site, for plans from the start to the goal
+pub record IsNewSearch {Action W : Type 0} (means : Meaning Action) (on : Site W) (w : W) (start goal : ℕ) (s : State Action)
+    : Type 0 where
+  pub initial : AreInitial s.labels (on.network w).states (from_on on start goal)
   pub none_raised : s.raised ≡ []
-  pub ready : means.ready n s.labels 0
-  pub to_goal : s.goal ≡ to
+  pub ready : means.ready (on.network w) s.labels 0
+  pub to_goal : s.goal ≡ to_on on start goal
   pub fresh : IsStartFresh s.labels
 
--- the plans are searched from the one state to the other, with the budget that is asked
-pub record IsSetFor {Action : Type 0} (how : SearchJob) (from to : ℕ) (s : Standing Action) : Type 0 where
-  pub between : GoesBetween from to s
+-- plans on a site are searched between the start and the goal, with the budget that is asked
+pub record IsSetFor {Action W : Type 0} (on : Site W) (how : SearchJob) (start goal : ℕ) (s : Standing Action) : Type 0 where
+  pub between : GoesBetween (from_on on start goal) (to_on on start goal) s
   pub budget_is : s.counts.per_plan ≡ how.budget
 
 -- what the last plan on a map leaves to the next
 abbrev pub carried_of : {Action : Type 0} → CellMap → Standing Action → Carried
 carried_of m s = record { map = m; labels = s.search.labels; expanded = s.counts.run }
 
--- the next plan in a world, whose search goes from this state, goes on from the plans before it
-pub record GoesOnFrom {Action W : Type 0} (means : Meaning Action) (on : Site W) (w : W) (from : ℕ) (before : Option Carried) (s : Standing Action) : Type 0 where
-  pub begins : Begins means on w from before s.search.labels s.search.raised
+-- the next plan in a world, from the start to the goal, goes on from the plans before it
+pub record GoesOnFrom {Action W : Type 0} (means : Meaning Action) (on : Site W) (w : W) (start goal : ℕ)
+    (before : Option Carried) (s : Standing Action) : Type 0 where
+  pub begins : Begins means on w (from_on on start goal) before s.search.labels s.search.raised
   pub counted : expanded_before before ≡ s.counts.run
 
 -- the record of plan k in a world, and what was published before it and after

@@ -1,6 +1,8 @@
 -- What the plans of a job are asked for, and how they end.
 use Rattle.std.specs.Prelude.{ℕ, ◌<◌, List, None}
 use Rattle.sbpl_worlds.specs.sbpl_job.Jobs.{IsSearchJob}
+use Rattle.sbpl_plans.specs.Planning.{IsSetFor}
+use Rattle.sbpl_plans.specs.declared.task.PlanStart.{PlanStart}
 use Rattle.sbpl_plans.specs.declared.task.Task.{Task}
 use Rattle.sbpl_worlds.specs.sbpl_promises.Asked.{PlannerOn}
 use Rattle.sbpl_worlds.specs.sbpl_promises.Causes.{AreUpdatesIn}
@@ -8,16 +10,29 @@ use Rattle.sbpl_worlds.specs.sbpl_promises.Promises.{EndsPlans}
 use Rattle.sbpl_worlds.specs.sbpl_promises.Published.{Entry}
 use Rattle.sbpl_worlds.specs.sbpl_promises.Sites.{Site, start_after}
 use Rattle.sbpl_worlds.specs.sbpl_promises.Writing.{DeskState, Write}
+use Rattle.sbpl_worlds.specs.sbpl_replan.Replanning.{IsReady, SessionState, standing_of}
 use Rattle.sbpl_worlds.specs.sbpl_report.declared.record.PlanRecord.{PlanRecord}
+use Rattle.sbpl_worlds.specs.sbpl_search.Meaning.{Meaning}
 
--- these plans can be made in a world: they go between its states, by a search in range, and the map and the robot, which moves or not,
--- take their course in it
+-- these plans can be made in a world, whose parts belong together: they go between its states, by a search in range, and the map
+-- and the robot, which moves or not, take their course in it
 pub record CanBeMade {W : Type 0} (on : Site W) (w : W) (t : Task) : Type 0 where
   pub start : t.start < (on.reporting.told w).states
   pub goal : t.goal < (on.reporting.told w).states
   pub search : IsSearchJob t.how.now
   pub updates : AreUpdatesIn on on.reporting.back w t.updates.now
   pub kept : on.cells.is_made w
+
+-- a plan of a task can be made in a session from this start on: it goes between states of the session's world, whose parts belong
+-- together, by a search in range, and the session is ready and set for it
+pub record CanPlan {Action H W : Type 0} (on : Site W) (means : Meaning Action) (is_made_for : H → W → ℕ → Type 0) (t : Task)
+    (at : PlanStart) (s : SessionState Action H W) : Type 0 where
+  pub start_inside : at.start < (on.reporting.told s.world).states
+  pub goal_inside : t.goal < (on.reporting.told s.world).states
+  pub search : IsSearchJob t.how.now
+  pub kept : on.cells.is_made s.world
+  pub ready : IsReady means on.network is_made_for s
+  pub set : IsSetFor on t.how.now at.start t.goal (standing_of s)
 
 -- how these plans end, which begin in a world: what was published before and after, what the desk held, and the status
 abbrev pub EndsTask : {W : Type 0} → PlannerOn W → (PlanRecord → List Write) → W → Task → (log shown : List Entry) → (before after : DeskState) → (status : ℕ) → Type 0

@@ -1,19 +1,18 @@
 //! One plan on a world.
 
 ghost use Rattle.std.specs.Prelude.{map, [], if◌then◌else◌, ◌≡◌, ◌+◌, ◌^◌, ◌<◌, ◌≤◌, ℕ, length};
-ghost use Rattle.std.specs.Prelude.{IfOk, MatchBool, None};
-ghost use Rattle.std.specs.Prelude.{OnErr, Option, Some};
+ghost use Rattle.std.specs.Prelude.{IfOk, MatchBool, None, OnErr, Option, Some};
 ghost use Rattle.sbpl_worlds.specs.sbpl_promises.Headline.{AreSteps, Carried, IsKnownWithin, IsNoneThere, IsPathFrom};
 ghost use Rattle.sbpl_worlds.specs.sbpl_promises.Headline.{IsSearched, IsWithinBound, KeepsPromises, Joins, JoinsStates};
 ghost use Rattle.sbpl_worlds.specs.sbpl_promises.Headline.{IsSameResult, IsToldOf};
-ghost use Rattle.sbpl_worlds.specs.sbpl_promises.Sites.{Leads, from_of, site_of, to_of};
+ghost use Rattle.sbpl_worlds.specs.sbpl_promises.Sites.{Leads, from_on, to_on};
 ghost use Rattle.sbpl_worlds.specs.sbpl_report.Traces.{traced_pass};
 ghost use Rattle.sbpl_plans.specs.Planning.{GoesOnFrom, IsPublishedInPart, IsSetFor, carried_of};
 ghost use Rattle.sbpl_plans.specs.Boards.{IsSamePublisher, entries_of};
+ghost use Rattle.sbpl_plans.specs.Tasks.{CanPlan};
 ghost use Rattle.sbpl_worlds.specs.sbpl_promises.Published.{newest, with_plan};
 ghost use Rattle.sbpl_worlds.specs.sbpl_plan.Asked.{IsAsk, MOST_PASSES};
 ghost use Rattle.sbpl_worlds.specs.sbpl_replan.Replanning.{IsReady, standing_of};
-ghost use Rattle.sbpl_worlds.specs.sbpl_job.Jobs.{IsSearchJob};
 ghost use Rattle.sbpl_worlds.specs.sbpl_promises.Asked.{ask_of, planner_on};
 ghost use Rattle.sbpl_worlds.specs.sbpl_plan.Outcomes.{IsTrueOutcome};
 ghost use Rattle.sbpl_worlds.specs.sbpl_report.Shown.{HasEnded, IsShown, IsThere};
@@ -22,7 +21,7 @@ ghost use Rattle.sbpl_worlds.specs.sbpl_plan.Outcomes as Conclusions;
 ghost use Rattle.sbpl_worlds.specs.sbpl_plan.declared.result.PlanResult.TheVariants as Results;
 
 use crate::live_board::LiveBoard;
-use crate::task::{Task, Turn};
+use crate::task::{PlanStart, Task};
 use sbpl_worlds::{
     Ask, Ended, Entry, FoundPath, NoMemory, Outputs, PathRecord, PlanRecord, PlanResult, Planned,
     Raised, Search, SearchJob, Section, Session, Steps, Traced, Workspace, labels_of,
@@ -39,7 +38,7 @@ fn steps_of<W: Workspace>(
     arcs: &[u32],
 ) -> Result<Steps, NoMemory>
     requires path { IsPathFrom (W.reporting.told world.now) from arcs.now }
-    ensures steps { IfOk result (AreSteps (site_of W.network W.cells W.Best.says W.reporting) world.now from arcs.now) }
+    ensures steps { IfOk result (AreSteps W.Workspace world.now from arcs.now) }
 {
     let mut steps = Vec::with_capacity(alloc, arcs.len())?;
     let mut at = from;
@@ -61,7 +60,7 @@ fn path_of<W: Workspace>(
 ) -> Result<PathRecord, NoMemory>
     requires state { start < (W.reporting.told world.now).states }
     requires so { IsTrueOutcome (W.reporting.told world.now) start goal (Results.Path found) }
-    ensures joins { IfOk result (JoinsStates (site_of W.network W.cells W.Best.says W.reporting) world.now start goal) }
+    ensures joins { IfOk result (JoinsStates W.Workspace world.now start goal) }
     ensures arcs { IfOk result (λ p. p.arcs ≡ found.arcs) }
     ensures cost { IfOk result (λ p. p.cost ≡ found.cost) }
     ensures bound { IfOk result (λ p. p.bound ≡ found.bound) }
@@ -88,7 +87,7 @@ fn outcome_of<W: Workspace>(
     requires state { start < (W.reporting.told world.now).states }
     requires so { IsTrueOutcome (W.reporting.told world.now) start goal found }
     ensures told { IfOk result (IsSameResult found) }
-    ensures joins { IfOk result (Joins (site_of W.network W.cells W.Best.says W.reporting) world.now start goal) }
+    ensures joins { IfOk result (Joins W.Workspace world.now start goal) }
     ensures within_the_bound { IfOk result (IsWithinBound (W.reporting.told world.now) start goal) }
     ensures none { IfOk result (IsNoneThere (W.reporting.told world.now) start goal) }
     ensures answered { IfOk result (λ o. (asked : ℕ) → Conclusions.IsConclusive asked found → IsKnownWithin asked o) }
@@ -170,7 +169,7 @@ fn record_of<W: Workspace, N: Traced + Copy>(
 ) -> Result<PlanRecord, NoMemory>
     requires start { start < (W.reporting.told world.now).states }
     requires goal { goal < (W.reporting.told world.now).states }
-    requires so { IsTrueOutcome (W.network world.now) (from_of W.reporting.back start goal) (to_of W.reporting.back start goal)
+    requires so { IsTrueOutcome (W.network world.now) (from_on W.Workspace start goal) (to_on W.Workspace start goal)
         planned.outcome }
     ensures number { IfOk result (λ r. r.plan ≡ plan) }
     ensures passes { IfOk result (λ r. r.passes ≡ map (traced_pass N.line) planned.passes) }
@@ -181,7 +180,7 @@ fn record_of<W: Workspace, N: Traced + Copy>(
     ensures raised { IfOk result (λ r. r.raised ≡ raised) }
     ensures incumbent { IfOk result (λ r. r.incumbent ≡ incumbent) }
     ensures marked { IfOk result (λ r. MatchBool planned.spent (r.spent ≡ Some expanded) (r.spent ≡ None)) }
-    ensures joins { IfOk result (λ r. Joins (site_of W.network W.cells W.Best.says W.reporting) world.now start goal r.outcome) }
+    ensures joins { IfOk result (λ r. Joins W.Workspace world.now start goal r.outcome) }
     ensures within_the_bound { IfOk result (λ r. IsWithinBound (W.reporting.told world.now) start goal r.outcome) }
     ensures none { IfOk result (λ r. IsNoneThere (W.reporting.told world.now) start goal r.outcome) }
     ensures answered { IfOk result (λ r. (asked : ℕ) → Conclusions.IsConclusive asked planned.outcome
@@ -207,53 +206,45 @@ pub(crate) fn make_record<W: Workspace + Drop, S: Search<W, W::Best> + Drop, B: 
     alloc: Global,
     session: &mut Session<W, W::Best, S>,
     task: &Task,
-    turn: Turn,
+    at: PlanStart,
     live: &mut LiveBoard<B>,
 ) -> Result<PlanRecord, NoMemory>
 where
     S::Action: Traced,
-    requires start { turn.start < (W.reporting.told session.old.world).states }
-    requires goal { task.now.goal < (W.reporting.told session.old.world).states }
+    requires can { CanPlan W.Workspace S.meaning W.Best.is_made_for task.now at session.old }
     requires few { length (entries_of live.old) + MOST_PASSES < 2 ^ 63 }
-    requires search { IsSearchJob task.now.how.now }
-    requires ready { IsReady S.meaning W.network W.Best.is_made_for session.old }
-    requires set { IsSetFor task.now.how.now (from_of W.reporting.back turn.start task.now.goal)
-        (to_of W.reporting.back turn.start task.now.goal) (standing_of session.old) }
-    ensures number { IfOk result (λ r. r.plan ≡ turn.plan) }
-    ensures promises { IfOk result (KeepsPromises (site_of W.network W.cells W.Best.says W.reporting) session.old.world
-        turn.start task.now.goal task.now.how.now.bound) }
-    ensures searched { (before : Option Carried) → GoesOnFrom S.meaning (site_of W.network W.cells W.Best.says W.reporting)
-        session.old.world (from_of W.reporting.back turn.start task.now.goal) before (standing_of session.old)
-        → IfOk result (IsSearched (planner_on (site_of W.network W.cells W.Best.says W.reporting) S.meaning S.Action.line)
-        session.old.world task.now.how.now task.now.outputs.now turn.start task.now.goal before
+    ensures number { IfOk result (λ r. r.plan ≡ at.plan) }
+    ensures promises { IfOk result (KeepsPromises W.Workspace session.old.world at.start task.now.goal task.now.how.now.bound) }
+    ensures searched { (before : Option Carried)
+        → GoesOnFrom S.meaning W.Workspace session.old.world at.start task.now.goal before (standing_of session.old)
+        → IfOk result (IsSearched (planner_on W.Workspace S.meaning S.Action.line) session.old.world task.now.how.now
+        task.now.outputs.now at.start task.now.goal before
         (carried_of (W.cells.map session.old.world) (standing_of session.new))) }
     ensures ready { IfOk result (λ _. IsReady S.meaning W.network W.Best.is_made_for session.new) }
-    ensures set { IfOk result (λ _. IsSetFor task.now.how.now (from_of W.reporting.back turn.start task.now.goal)
-        (to_of W.reporting.back turn.start task.now.goal) (standing_of session.new)) }
+    ensures set { IfOk result (λ _. IsSetFor W.Workspace task.now.how.now at.start task.now.goal (standing_of session.new)) }
     ensures world { session.new.world ≡ session.old.world }
     ensures shown { IfOk result (λ r. entries_of live.new ≡ with_plan (entries_of live.old) r) }
     ensures incumbent { IfOk result (λ r. r.incumbent ≡ newest (entries_of live.new)) }
-    ensures broken { (before : Option Carried) → GoesOnFrom S.meaning (site_of W.network W.cells W.Best.says W.reporting)
-        session.old.world (from_of W.reporting.back turn.start task.now.goal) before (standing_of session.old)
-        → OnErr result (IsPublishedInPart (planner_on (site_of W.network W.cells W.Best.says W.reporting) S.meaning S.Action.line)
-        session.old.world task.now.how.now task.now.outputs.now turn.start task.now.goal turn.plan
-        (entries_of live.old) (entries_of live.new) before) }
+    ensures broken { (before : Option Carried)
+        → GoesOnFrom S.meaning W.Workspace session.old.world at.start task.now.goal before (standing_of session.old)
+        → OnErr result (IsPublishedInPart (planner_on W.Workspace S.meaning S.Action.line) session.old.world task.now.how.now
+        task.now.outputs.now at.start task.now.goal at.plan (entries_of live.old) (entries_of live.new) before) }
     ensures same { IsSamePublisher live.old live.new }
     ensures grown { length (entries_of live.new) ≤ length (entries_of live.old) + MOST_PASSES }
 {
     let ask = ask_of(task.how, task.outputs);
     let raised = raised_of(alloc, session.raised(), ask.traced)?;
-    live.begin(turn.plan);
+    live.begin(at.plan);
     let planned = session.plan(alloc, &ask, live)?;
     let incumbent = live.newest()?;
-    let labels = section_of(alloc, session, turn.plan, &planned.outcome, task.outputs)?;
+    let labels = section_of(alloc, session, at.plan, &planned.outcome, task.outputs)?;
     let expanded = session.expanded();
     record_of(
         alloc,
         session.world(),
-        turn.start,
+        at.start,
         task.goal,
-        turn.plan,
+        at.plan,
         planned,
         expanded,
         labels,

@@ -6,7 +6,6 @@ ghost use Rattle.sbpl_worlds.specs.sbpl_search.Query.{query};
 ghost use Rattle.sbpl_worlds.specs.sbpl_promises.Asked.{planner_as_is};
 ghost use Rattle.sbpl_plans.specs.Boards.{IsSamePublisher, entries_of};
 ghost use Rattle.sbpl_plans.specs.Tasks.{CanBeMade, EndsTask};
-ghost use Rattle.sbpl_worlds.specs.sbpl_promises.Sites.{site_of};
 ghost use Rattle.sbpl_worlds.specs.sbpl_promises.Writing.{WritesOnly};
 
 use crate::live_board::LiveBoard;
@@ -43,11 +42,10 @@ pub fn make_plans<
 ) -> u8
 where
     W::Best: Sync,
-    requires task { CanBeMade (site_of W.network W.cells W.Best.says W.reporting) world task.now }
+    requires task { CanBeMade W.Workspace world task.now }
     requires few { length (entries_of live.old) < 2 ^ 62 }
-    ensures ends { EndsTask (planner_as_is (site_of W.network W.cells W.Best.says W.reporting) task.now.how.now.planner)
-        (T.written telling.now) world task.now (entries_of live.old) (entries_of live.new)
-        (D.state desk.old) (D.state desk.new) result }
+    ensures ends { EndsTask (planner_as_is W.Workspace task.now.how.now.planner) (T.written telling.now) world task.now
+        (entries_of live.old) (entries_of live.new) (D.state desk.old) (D.state desk.new) result }
     ensures same { IsSamePublisher live.old live.new }
     ensures frame { WritesOnly (T.under telling.now) (D.state desk.old) (D.state desk.new) }
 {

@@ -1,20 +1,18 @@
 //! The plans of a job: one on the map as it is, and one after each batch of changes.
 
 ghost use Rattle.std.specs.Prelude.{◌≡◌, ◌+◌, ◌^◌, ◌<◌, ◌≤◌, length, IfOk, None, Option};
-ghost use Rattle.sbpl_worlds.specs.sbpl_job.Jobs.{IsSearchJob};
 ghost use Rattle.sbpl_worlds.specs.sbpl_promises.Headline.{Carried};
 ghost use Rattle.sbpl_worlds.specs.sbpl_promises.Asked.{planner_on};
-ghost use Rattle.sbpl_worlds.specs.sbpl_promises.Sites.{from_of, site_of, to_of};
 ghost use Rattle.sbpl_worlds.specs.sbpl_replan.Replanning.{IsReady, standing_of};
 ghost use Rattle.sbpl_plans.specs.Planning.{EndsOnePlan, GoesOnFrom, IsNewSearch, IsSetFor, carried_of};
 ghost use Rattle.sbpl_plans.specs.Boards.{IsSamePublisher, entries_of};
-ghost use Rattle.sbpl_plans.specs.Tasks.{CanBeMade, EndsTask};
+ghost use Rattle.sbpl_plans.specs.Tasks.{CanBeMade, CanPlan, EndsTask};
 ghost use Rattle.sbpl_worlds.specs.sbpl_plan.Asked.{MOST_PASSES};
 ghost use Rattle.sbpl_worlds.specs.sbpl_promises.Writing.{WritesOnly};
 
 use crate::live_board::LiveBoard;
 use crate::plan_record::make_record;
-use crate::task::{Task, Turn};
+use crate::task::{PlanStart, Task};
 use sbpl_telling::{Telling, status_after, write_last};
 use sbpl_worlds::{
     Desk, NoMemory, Search, Session, Traced, Workspace, WriteStop, place_in,
@@ -28,37 +26,29 @@ fn make_plan<D: Desk, T: Telling, W: Workspace + Drop, S: Search<W, W::Best> + D
     alloc: Global,
     session: &mut Session<W, W::Best, S>,
     task: &Task,
-    turn: Turn,
+    at: PlanStart,
     live: &mut LiveBoard<B>,
     telling: &T,
     desk: &mut D,
 ) -> Result<(), WriteStop>
 where
     S::Action: Traced,
-    requires start { turn.start < (W.reporting.told session.old.world).states }
-    requires goal { task.now.goal < (W.reporting.told session.old.world).states }
+    requires can { CanPlan W.Workspace S.meaning W.Best.is_made_for task.now at session.old }
     requires few { length (entries_of live.old) + MOST_PASSES < 2 ^ 63 }
-    requires search { IsSearchJob task.now.how.now }
-    requires kept { W.cells.is_made session.old.world }
-    requires ready { IsReady S.meaning W.network W.Best.is_made_for session.old }
-    requires set { IsSetFor task.now.how.now (from_of W.reporting.back turn.start task.now.goal)
-        (to_of W.reporting.back turn.start task.now.goal) (standing_of session.old) }
-    ensures ends { (before : Option Carried) → GoesOnFrom S.meaning (site_of W.network W.cells W.Best.says W.reporting)
-        session.old.world (from_of W.reporting.back turn.start task.now.goal) before (standing_of session.old)
-        → EndsOnePlan (planner_on (site_of W.network W.cells W.Best.says W.reporting) S.meaning S.Action.line)
-        (T.written telling.now) session.old.world task.now.how.now task.now.outputs.now turn.start task.now.goal turn.plan
-        (entries_of live.old) (entries_of live.new) before
+    ensures ends { (before : Option Carried)
+        → GoesOnFrom S.meaning W.Workspace session.old.world at.start task.now.goal before (standing_of session.old)
+        → EndsOnePlan (planner_on W.Workspace S.meaning S.Action.line) (T.written telling.now) session.old.world
+        task.now.how.now task.now.outputs.now at.start task.now.goal at.plan (entries_of live.old) (entries_of live.new) before
         (carried_of (W.cells.map session.old.world) (standing_of session.new)) (D.state desk.old) (D.state desk.new) result }
     ensures ready { IfOk result (λ _. IsReady S.meaning W.network W.Best.is_made_for session.new) }
-    ensures set { IfOk result (λ _. IsSetFor task.now.how.now (from_of W.reporting.back turn.start task.now.goal)
-        (to_of W.reporting.back turn.start task.now.goal) (standing_of session.new)) }
+    ensures set { IfOk result (λ _. IsSetFor W.Workspace task.now.how.now at.start task.now.goal (standing_of session.new)) }
     ensures world { session.new.world ≡ session.old.world }
     ensures same { IsSamePublisher live.old live.new }
     ensures grown { length (entries_of live.new) ≤ length (entries_of live.old) + MOST_PASSES }
     ensures frame { WritesOnly (T.under telling.now) (D.state desk.old) (D.state desk.new) }
 {
     W::has_its_arcs();
-    match make_record(alloc, session, task, turn, live) {
+    match make_record(alloc, session, task, at, live) {
         Ok(record) => telling.tell(alloc, &record, desk),
         Err(NoMemory) => Err(WriteStop::NoMemory),
     }
@@ -71,16 +61,14 @@ fn open_session<W: Workspace + Drop, S: Search<W, W::Best> + Drop>(
     search: S,
     task: &Task,
 ) -> Result<Session<W, W::Best, S>, NoMemory>
-    requires task { CanBeMade (site_of W.network W.cells W.Best.says W.reporting) world task.now }
-    requires new { IsNewSearch S.meaning (W.network world) (from_of W.reporting.back task.now.start task.now.goal)
-        (to_of W.reporting.back task.now.start task.now.goal) (S.state search) }
+    requires task { CanBeMade W.Workspace world task.now }
+    requires new { IsNewSearch S.meaning W.Workspace world task.now.start task.now.goal (S.state search) }
     requires serves { S.serves search }
     ensures world { IfOk result (λ s. s.world ≡ world) }
     ensures ready { IfOk result (IsReady S.meaning W.network W.Best.is_made_for) }
-    ensures set { IfOk result (λ s. IsSetFor task.now.how.now (from_of W.reporting.back task.now.start task.now.goal)
-        (to_of W.reporting.back task.now.start task.now.goal) (standing_of s)) }
-    ensures begun { IfOk result (λ s. GoesOnFrom S.meaning (site_of W.network W.cells W.Best.says W.reporting) world
-        (from_of W.reporting.back task.now.start task.now.goal) None (standing_of s)) }
+    ensures set { IfOk result (λ s. IsSetFor W.Workspace task.now.how.now task.now.start task.now.goal (standing_of s)) }
+    ensures begun { IfOk result (λ s.
+        GoesOnFrom S.meaning W.Workspace world task.now.start task.now.goal None (standing_of s)) }
 {
     Session::open(alloc, world, search, task.how.budget)
 }
@@ -104,14 +92,12 @@ pub(crate) fn go_through<
 ) -> u8
 where
     S::Action: Traced,
-    requires task { CanBeMade (site_of W.network W.cells W.Best.says W.reporting) world task.now }
+    requires task { CanBeMade W.Workspace world task.now }
     requires few { length (entries_of live.old) < 2 ^ 62 }
-    requires new { IsNewSearch S.meaning (W.network world) (from_of W.reporting.back task.now.start task.now.goal)
-        (to_of W.reporting.back task.now.start task.now.goal) (S.state search) }
+    requires new { IsNewSearch S.meaning W.Workspace world task.now.start task.now.goal (S.state search) }
     requires serves { S.serves search }
-    ensures ends { EndsTask (planner_on (site_of W.network W.cells W.Best.says W.reporting) S.meaning S.Action.line)
-        (T.written telling.now) world task.now (entries_of live.old) (entries_of live.new)
-        (D.state desk.old) (D.state desk.new) result }
+    ensures ends { EndsTask (planner_on W.Workspace S.meaning S.Action.line) (T.written telling.now) world task.now
+        (entries_of live.old) (entries_of live.new) (D.state desk.old) (D.state desk.new) result }
     ensures same { IsSamePublisher live.old live.new }
     ensures frame { WritesOnly (T.under telling.now) (D.state desk.old) (D.state desk.new) }
 {
@@ -124,8 +110,8 @@ where
     let updates = task.updates;
     let mut start = task.start;
     for k in 0..updates.batches.batches() {
-        let turn = Turn { plan: k, start };
-        if let Err(stop) = make_plan(alloc, &mut session, task, turn, live, telling, desk) {
+        let at = PlanStart { plan: k, start };
+        if let Err(stop) = make_plan(alloc, &mut session, task, at, live, telling, desk) {
             return status_after(Err(stop), 9);
         }
         if let Err(NoMemory) = session.change(alloc, updates.batches.batch(k)) {
@@ -137,7 +123,7 @@ where
             return 9;
         }
     }
-    let last = Turn {
+    let last = PlanStart {
         plan: updates.batches.batches(),
         start,
     };

@@ -15,7 +15,7 @@ pub struct Task<'a> {
 
 /// The number of a plan, and the state from which it goes.
 #[derive(Clone, Copy)]
-pub(crate) struct Turn {
+pub(crate) struct PlanStart {
     pub(crate) plan: u32,
     pub(crate) start: u32,
 }

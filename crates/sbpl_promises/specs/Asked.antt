@@ -4,7 +4,7 @@ use Rattle.std.specs.Option.{is_some}
 use Rattle.sbpl_report.specs.sbpl_search.Meaning.{Meaning}
 use Rattle.sbpl_report.specs.sbpl_serial.declared.step.Step.{Step}
 use Rattle.sbpl_report.specs.declared.record.TraceLine.{TraceLine}
-use Rattle.sbpl_promises.specs.Sites.{Site, from_of, searched_on, to_of}
+use Rattle.sbpl_promises.specs.Sites.{Site, from_on, searched_on, to_on}
 use Rattle.sbpl_report.specs.Traces.{line_of, line_of_event}
 use Rattle.sbpl_replan.specs.sbpl_ara.Planner.{ara}
 use Rattle.sbpl_replan.specs.sbpl_adstar.Planner.{adstar}
@@ -61,7 +61,7 @@ planner_for on p = planner_as_is (searched_on on (may_move p)) p
 
 -- of the start and the goal of a plan, the state from which such a planner searches, and the one to which
 abbrev pub from_by : {W : Type 0} → PlannerOn W → (start goal : ℕ) → ℕ
-from_by by = from_of by.on.reporting.back
+from_by by = from_on by.on
 
 abbrev pub to_by : {W : Type 0} → PlannerOn W → (start goal : ℕ) → ℕ
-to_by by = to_of by.on.reporting.back
+to_by by = to_on by.on

@@ -15,7 +15,7 @@ use Rattle.sbpl_report.specs.sbpl_cert.Versions.{IsOf, arcs_of, claim_by, outcom
 use Rattle.sbpl_report.specs.sbpl_map.CellMap.{CellMap}
 use Rattle.sbpl_report.specs.sbpl_map.MapAfter.{IsMapAfter}
 use Rattle.sbpl_report.specs.sbpl_map.declared.write.Write.{Write}
-use Rattle.sbpl_promises.specs.Sites.{Site, from_of, start_after, to_of}
+use Rattle.sbpl_promises.specs.Sites.{Site, from_on, start_after, to_on}
 use Rattle.sbpl_promises.specs.declared.updates.Updates.{Updates}
 use Rattle.sbpl_promises.specs.declared.section_stop.SectionStop.{SectionStop}
 use Rattle.sbpl_promises.specs.declared.section_stop.SectionStop.TheVariants as stop
@@ -95,10 +95,10 @@ case_of on w updates start goal = record { world = w; batches = updates.batches;
 
 -- the state from which the search of plan k goes, and the one to which
 abbrev pub from_in : {W : Type 0} → {on : Site W} → Case on → ℕ → ℕ
-from_in {W} {on} c k = from_of on.reporting.back (c.starts k) c.goal
+from_in {W} {on} c k = from_on on (c.starts k) c.goal
 
 abbrev pub to_in : {W : Type 0} → {on : Site W} → Case on → ℕ → ℕ
-to_in {W} {on} c k = to_of on.reporting.back (c.starts k) c.goal
+to_in {W} {on} c k = to_on on (c.starts k) c.goal
 
 -- the graph over which plan k is searched, on the map after the first k batches, and what guides it
 pub record IsGroundAfter {W : Type 0} {on : Site W} (c : Case on) (k : ℕ) (n : Ground) : Type 0 where

@@ -30,14 +30,19 @@ pub record Reporting (W : Type 0) : Type 1 where
   pub headings : W → ℕ
   pub state : W → Place → ℕ
 
+-- What is planned on:
 -- network: the graph of each world that is searched
 -- cells: its map, and which cells its arcs read
 -- says: what the heuristic says at each state, to the state to which the search goes
-pub record Site (W : Type 0) : Type 1 where
-  pub network : W → Network
-  pub cells : Cells W
-  pub says : W → (goal : ℕ) → (guide : ℕ → ℕ) → Type 0
-  pub reporting : Reporting W
+-- reporting: how it is worded
+-- The record has no name of its own, since a workspace makes one of its ghost members: contracts name the site of W 'W.Workspace'.
+abbrev pub Site : Type 0 → Type 1
+Site W = record {
+  network : W → Network;
+  cells : Cells W;
+  says : W → (goal : ℕ) → (guide : ℕ → ℕ) → Type 0;
+  reporting : Reporting W;
+}
 
 -- two worlds word places alike
 pub record WordPlacesAlike {W : Type 0} (words : Reporting W) (w v : W) : Type 0 where
@@ -49,10 +54,6 @@ abbrev pub start_after : {W : Type 0} → Reporting W → W → (start : ℕ) �
 start_after words w start None k = start
 start_after words w start (Some moves) k = unwrap_or (last_or None (filter_map (option_map (words.state w)) (take k moves))) start
 
--- the site of these parts
-abbrev pub site_of : {W : Type 0} → (W → Network) → Cells W → (W → (goal : ℕ) → (guide : ℕ → ℕ) → Type 0) → Reporting W → Site W
-site_of network cells says reporting = record { network = network; cells = cells; says = says; reporting = reporting }
-
 -- ---- a graph that is searched the other way round
 
 -- of the start and the goal of a plan, the state from which its search goes, and the one to which
@@ -63,6 +64,13 @@ from_of false start goal = start
 abbrev pub to_of : (back : Bool) → (start goal : ℕ) → ℕ
 to_of true start goal = start
 to_of false start goal = goal
+
+-- and on a site
+abbrev pub from_on : {W : Type 0} → Site W → (start goal : ℕ) → ℕ
+from_on on = from_of on.reporting.back
+
+abbrev pub to_on : {W : Type 0} → Site W → (start goal : ℕ) → ℕ
+to_on on = to_of on.reporting.back
 
 -- the path that a search found is this path of a graph from the start to the goal; where the search went the other way round, it is
 -- this path turned round

@@ -10,9 +10,6 @@ use std::alloc::Global;
 
 /// A guide to a goal that is made for a graph over a map, made anew where the map has changed, and aimed at another goal.
 pub trait Heuristic<W: Terrain>: Guide + Drop {
-    /// What such a guide says at each state, in a world and to a goal.
-    ghost says: { W → (goal : ℕ) → (guide : ℕ → ℕ) → Type 0 };
-
     /// It is made for a world and a goal.
     ghost is_made_for: { Self → W → (goal : ℕ) → Type 0 };
 
@@ -45,7 +42,4 @@ pub trait Heuristic<W: Terrain>: Guide + Drop {
     /// It guides to the goal.
     ghost guides_there: { (guide : Self) (w : W) (goal : ℕ) → is_made_for guide w goal
         → Self.guides guide (W.network w) goal };
-
-    /// It says what it should.
-    ghost says_so: { (guide : Self) (w : W) (goal : ℕ) → is_made_for guide w goal → says w goal (Self.distance guide) };
 }

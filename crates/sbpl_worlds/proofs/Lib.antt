@@ -3,3 +3,4 @@ pub mod Explaining
 pub mod OnMaps
 pub mod Moving
 pub mod Drawings
+pub mod Workspaces

@@ -9,11 +9,13 @@ use std::alloc::Global;
 
 impl Workspace for Nav {
     ghost use Rattle.std.proofs.Common.{refl};
-    ghost use Rattle.sbpl_promises.specs.GridSite.{grid_reporting};
+    ghost use Rattle.sbpl_promises.specs.GridSite.{grid_site};
 
     type Best = Octile;
 
-    ghost reporting = { grid_reporting };
+    ghost says = { grid_site.says };
+
+    ghost reporting = { grid_site.reporting };
 
     fn ends(&self) -> (u32, u32) {
         let env = self.env();
@@ -62,6 +64,8 @@ impl Workspace for Nav {
     fn has_its_arcs() {
         worlds_are_grids();
     }
+
+    ghost says_so = { λ o w goal made s inside. made.guides.gaps s };
 
     ghost same_states = { λ w. refl };
 

@@ -9,11 +9,13 @@ use std::alloc::Global;
 
 impl Workspace for Lattice {
     ghost use Rattle.std.proofs.Common.{refl};
-    ghost use Rattle.sbpl_promises.specs.LatticeSite.{lattice_reporting};
+    ghost use Rattle.sbpl_promises.specs.LatticeSite.{lattice_site};
 
     type Best = Best;
 
-    ghost reporting = { lattice_reporting };
+    ghost says = { lattice_site.says };
+
+    ghost reporting = { lattice_site.reporting };
 
     fn ends(&self) -> (u32, u32) {
         let env = self.env();
@@ -61,6 +63,8 @@ impl Workspace for Lattice {
         lattice_has_its_arcs();
         lattice_tails_are_in_order();
     }
+
+    ghost says_so = { λ b w goal made. made.best };
 
     ghost same_states = { λ w. refl };
 

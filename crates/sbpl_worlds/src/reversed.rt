@@ -38,11 +38,14 @@ fn turn_path(
 impl Workspace for Reversed {
     ghost use Rattle.std.specs.Prelude.{true};
     ghost use Rattle.std.proofs.Common.{refl};
-    ghost use Rattle.sbpl_promises.specs.LatticeSite.{lattice_reporting};
+    ghost use Rattle.sbpl_promises.specs.LatticeSite.{lattice_site};
+    ghost use Rattle.sbpl_promises.specs.Sites.{searched_on};
 
     type Best = FromStart;
 
-    ghost reporting = { record lattice_reporting { back = true } };
+    ghost says = { (searched_on lattice_site true).says };
+
+    ghost reporting = { (searched_on lattice_site true).reporting };
 
     fn ends(&self) -> (u32, u32) {
         self.lattice().ends()
@@ -87,6 +90,8 @@ impl Workspace for Reversed {
     fn has_its_arcs() {
         Lattice::has_its_arcs();
     }
+
+    ghost says_so = { λ f w goal made. made.gaps };
 
     ghost same_states = { λ w. refl };
 

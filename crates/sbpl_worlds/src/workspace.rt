@@ -1,6 +1,6 @@
 //! What a job plans on.
 
-ghost use Rattle.std.specs.Prelude.{◌≡◌, ◌<◌, IfOk, IsSome};
+ghost use Rattle.std.specs.Prelude.{◌≡◌, ◌<◌, ℕ, IfOk, IsSome};
 ghost use Rattle.sbpl_promises.specs.sbpl_map.CellMap.{CellMap};
 ghost use Rattle.sbpl_promises.specs.sbpl_map.ChangeText.{IsPlaceOnMap};
 ghost use Rattle.sbpl_worlds.specs.Moves.{state_or};
@@ -15,9 +15,15 @@ use std::alloc::Global;
 
 /// What a job plans on: a graph over a map, which is made of the job's files. Plans are told of a graph whose states and
 /// arcs a report can name, from its start to its goal; a search may go over that graph or over it the other way round.
+///
+/// Its ghost members, after those of `Graph` and `Terrain`, are the site that is planned on: they stand in the order of `Site`,
+/// and contracts name the site of `W` by `W.Workspace`.
 pub trait Workspace: Terrain {
     /// What guides a search.
     type Best: Heuristic<Self>;
+
+    /// What guides a search says this at each state, in a world and to the state to which the search goes.
+    ghost says: { Self → (goal : ℕ) → (guide : ℕ → ℕ) → Type 0 };
 
     /// How plans on it are worded.
     ghost reporting: { Reporting Self };
@@ -73,6 +79,10 @@ pub trait Workspace: Terrain {
     /// The graph has just the arcs that the files make. This does nothing when it runs.
     fn has_its_arcs()
         ensures law { (w : Self) → Self.cells.is_made w → reporting.arcs (reporting.told w) w };
+
+    /// What guides a search says what it should.
+    ghost says_so: { (guide : Self.Best) (w : Self) (goal : ℕ) → Self.Best.is_made_for guide w goal
+        → says w goal (Self.Best.distance guide) };
 
     /// The graph that is searched has the states of the one whose paths are told.
     ghost same_states: { (w : Self) → (reporting.told w).states ≡ (Self.network w).states };

@@ -31,7 +31,7 @@ returns-clause-holds g c = λ case plan.
     let w = c.args.world.now in
     let after =
     ground_in case c.args.plan w c.args.start c.args.goal (g.W.Best.Guide.distance c.args.guide.now) plan
-    (g.met.W.Best.Heuristic.says_so c.args.guide.now w _ c.requires.made) in
+    (g.met.W.Workspace.says_so c.args.guide.now w _ c.requires.made) in
     ok_so _ _ _ (λ next holds. holds_there case c.args.plan after
     (from_is case c.args.plan w c.args.start c.args.goal plan ∙ sym c.way-from.ensures.from)
     (to_is case c.args.plan w c.args.start c.args.goal plan ∙ sym c.way-from.ensures.to) holds)
@@ -42,7 +42,7 @@ returns-clause-ends g c = λ case more plan.
     let w = c.args.world.now in
     let after =
     ground_in case c.args.plan w c.args.start c.args.goal (g.W.Best.Guide.distance c.args.guide.now) plan
-    (g.met.W.Best.Heuristic.says_so c.args.guide.now w _ c.requires.made) in
+    (g.met.W.Workspace.says_so c.args.guide.now w _ c.requires.made) in
     all_ends_there case c.args.plan after
     (from_is case c.args.plan w c.args.start c.args.goal plan ∙ sym c.way-from.ensures.from)
     (to_is case c.args.plan w c.args.start c.args.goal plan ∙ sym c.way-from.ensures.to) _ more _ _ _ _

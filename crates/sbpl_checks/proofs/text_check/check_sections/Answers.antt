@@ -5,18 +5,18 @@ use Rattle.sbpl_worlds.specs.sbpl_cfg.declared.pose.Place.{Place}
 use Rattle.sbpl_worlds.specs.sbpl_map.ChangeText.{IsPlaceOnMap}
 use Rattle.sbpl_worlds.specs.sbpl_map.MapAfter.{IsMapAfter}
 use Rattle.sbpl_checks.specs.Checking.{EndsSections, IsPlanIn}
-use Rattle.sbpl_worlds.specs.sbpl_promises.Sites.{Site, WordPlacesAlike, site_of, to_of}
+use Rattle.sbpl_worlds.specs.sbpl_promises.Sites.{Site, WordPlacesAlike, to_of}
 use Rattle.sbpl_telling.proofs.Frames.{writes_on}
 use Rattle.sbpl_worlds.proofs.Moving.{alike_over, move_on_map, next_is, within}
 use Rattle.sbpl_worlds.proofs.OnMaps.{batch_on_map, same_told_states}
+use Rattle.sbpl_worlds.proofs.Workspaces.{site_of}
 use Rattle.sbpl_checks.proofs.Verifying.{ends_text, goes_on, none_checked, plan_in, runs_out}
 use Rattle.sbpl_checks.proofs.text_check.check_sections.Goals as goal
 use Rattle.sbpl_checks.proofs.text_check.check_sections.Goals.{After-batches-last, After-write_batch}
 
 pub loop-k-init : goal.loop-k-init
 loop-k-init g c =
-    none_checked (site_of g.W.Graph.network g.W.Terrain.cells g.W.Best.Heuristic.says g.W.Workspace.reporting)
-    c.is_terrain.ensures.law c.requires.made
+    none_checked (site_of g.W.Graph g.W.Terrain g.W.Workspace) c.is_terrain.ensures.law c.requires.made
     (c.writes_lead_to_the_next_map.ensures.first _ _) c.requires.kept c.requires.start
 
 -- the map now has as many states as the first
@@ -34,8 +34,7 @@ returns-in-Err-clause-ends g c =
     let whole : k + (length updates.batches - k) ≡ length updates.batches =
     (let test = c.loop-k-test.true in let count = c.batches-k-end.ensures.value in omega arith) in
     so.leads (length updates.batches - k) whole _ c.in-Err.ending
-    (c.in-Err.ensures.ends (case_of (site_of g.W.Graph.network g.W.Terrain.cells g.W.Best.Heuristic.says
-    g.W.Workspace.reporting) c.args.world.now updates c.args.start c.args.goal)
+    (c.in-Err.ensures.ends (case_of (site_of g.W.Graph g.W.Terrain g.W.Workspace) c.args.world.now updates c.args.start c.args.goal)
     (length updates.batches - k) (plan_in so))
 
 pub write_batch-requires : goal.write_batch-requires
@@ -69,8 +68,8 @@ over_first g c =
 alike_after : (g : _) (c : After-write_batch g)
     → WordPlacesAlike g.W.Workspace.reporting c.args.world.now c.write_batch.new.world
 alike_after g c =
-    alike_over (site_of g.W.Graph.network g.W.Terrain.cells g.W.Best.Heuristic.says g.W.Workspace.reporting)
-    g.met.W.Workspace.places_stay c.args.world.now c.write_batch.new.world (over_first g c)
+    alike_over (site_of g.W.Graph g.W.Terrain g.W.Workspace) g.met.W.Workspace.places_stay c.args.world.now
+    c.write_batch.new.world (over_first g c)
 
 -- before the batch the guide was made for the world that the present one is on the old map
 made_before : (g : _) (c : After-write_batch g)
@@ -117,8 +116,8 @@ start_at-start-requires-clause-place g c =
     subst (λ (count : ℕ). IsPlaceOnMap (cells.map now) count c.place_in.result) (sym (alike_after g at).headings)
     (subst (λ (o : Option Place). IsPlaceOnMap (cells.map now) (g.W.Workspace.reporting.headings w) o)
     (sym c.place_in.ensures.place)
-    (move_on_map (site_of g.W.Graph.network g.W.Terrain.cells g.W.Best.Heuristic.says g.W.Workspace.reporting) w
-    (cells.map now) c.args.updates.now.batches moves c.loop-k.k c.requires.updates.1.moves here next.width next.height))
+    (move_on_map (site_of g.W.Graph g.W.Terrain g.W.Workspace) w (cells.map now) c.args.updates.now.batches moves
+    c.loop-k.k c.requires.updates.1.moves here next.width next.height))
 
 pub start_at-start-requires-clause-start : goal.start_at-start-requires-clause-start
 start_at-start-requires-clause-start g c =
@@ -132,7 +131,7 @@ returns-in-Err-aim-clause-ends g c =
     let so = c.loop-k.invariant in
     let updates = c.args.updates.now in
     let k = c.loop-k.k in
-    let on : Site _ = (site_of g.W.Graph.network g.W.Terrain.cells g.W.Best.Heuristic.says g.W.Workspace.reporting) in
+    let on : Site _ = site_of g.W.Graph g.W.Terrain g.W.Workspace in
     let case : Case on = case_of on c.args.world.now updates c.args.start c.args.goal in
     let left : ℕ = length updates.batches - k in
     let whole : k + left ≡ length updates.batches =
@@ -149,7 +148,7 @@ loop-k-preserved g c =
     let w = c.args.world.now in
     let now = c.write_batch.new.world in
     let updates = c.args.updates.now in
-    let on : Site _ = (site_of g.W.Graph.network g.W.Terrain.cells g.W.Best.Heuristic.says g.W.Workspace.reporting) in
+    let on : Site _ = site_of g.W.Graph g.W.Terrain g.W.Workspace in
     let k = c.loop-k.k in
     let here : k < length updates.batches =
     (let test = c.loop-k-test.true in let count = c.batches-k-end.ensures.value in omega arith) in
@@ -192,9 +191,8 @@ pub returns-in-Ok-check_plan-clause-ends : goal.returns-in-Ok-check_plan-clause-
 returns-in-Ok-check_plan-clause-ends g c =
     let so = c.loop-k.invariant in
     let updates = c.args.updates.now in
-    let on : Site _ = (site_of g.W.Graph.network g.W.Terrain.cells g.W.Best.Heuristic.says g.W.Workspace.reporting) in
-    let case : Case on =
-    case_of on c.args.world.now updates c.args.start c.args.goal in
+    let on : Site _ = site_of g.W.Graph g.W.Terrain g.W.Workspace in
+    let case : Case on = case_of on c.args.world.now updates c.args.start c.args.goal in
     let last = last_is g (goal.at.returns-in-Ok-check_plan-clause-ends g c).After-batches-last in
     let count = c.batches-last.ensures.value in
     let plan =
@@ -211,9 +209,8 @@ pub returns-in-Err-check_plan-clause-ends : goal.returns-in-Err-check_plan-claus
 returns-in-Err-check_plan-clause-ends g c =
     let so = c.loop-k.invariant in
     let updates = c.args.updates.now in
-    let on : Site _ = (site_of g.W.Graph.network g.W.Terrain.cells g.W.Best.Heuristic.says g.W.Workspace.reporting) in
-    let case : Case on =
-    case_of on c.args.world.now updates c.args.start c.args.goal in
+    let on : Site _ = site_of g.W.Graph g.W.Terrain g.W.Workspace in
+    let case : Case on = case_of on c.args.world.now updates c.args.start c.args.goal in
     let last = last_is g (goal.at.returns-in-Err-check_plan-clause-ends g c).After-batches-last in
     let count = c.batches-last.ensures.value in
     let plan =

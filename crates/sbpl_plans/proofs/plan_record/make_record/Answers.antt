@@ -28,11 +28,12 @@ use Rattle.sbpl_plans.proofs.Founds.{on_err_is, stands_broken, stands_so, expans
 use Rattle.sbpl_plans.proofs.Observed.{same_if, shown, stands_same, then_same}
 use Rattle.sbpl_worlds.specs.sbpl_report.declared.record.PlanRecord.{PlanRecord}
 use Rattle.sbpl_worlds.specs.sbpl_promises.Asked.{PlannerOn, ask_of, from_by, planner_on, to_by}
-use Rattle.sbpl_worlds.specs.sbpl_promises.Sites.{Leads, Site, from_of, site_of, to_of}
+use Rattle.sbpl_worlds.specs.sbpl_promises.Sites.{Leads, Site, from_of, to_of}
 use Rattle.sbpl_worlds.specs.sbpl_promises.Headline.{Begins, Carried, IsKnownWithin, IsMarked, IsNoneThere, IsSearched, IsToldOf}
 use Rattle.sbpl_worlds.specs.sbpl_promises.Headline.{IsWithinBound, Joins, KeepsPromises, expanded_before}
 use Rattle.sbpl_worlds.specs.sbpl_report.Shown.{IsShown, IsThere}
 use Rattle.sbpl_worlds.proofs.OnMaps.{to_inside}
+use Rattle.sbpl_worlds.proofs.Workspaces.{site_of}
 use Rattle.sbpl_plans.proofs.plan_record.make_record.Goals as goal
 
 -- a plan that was spent used up the budget, or the run's
@@ -150,10 +151,10 @@ section_of-requires g c =
     let ready = c.in_ok-planned.ensures.ready in
     let new = c.plan.new.self in
     let guide = g.W.Best.Guide.distance c.args.session.now.guide in
-    let to = c.in_ok-planned.ensures.same.goal ∙ c.requires.set.between.to_is in
-    let inside : to_of back c.args.turn.start task.goal < n.states =
-    subst (λ (k : ℕ). to_of back c.args.turn.start task.goal < k) (g.met.W.Workspace.same_states w)
-    (to_inside back c.args.turn.start task.goal (g.W.Workspace.reporting.told w).states c.requires.start c.requires.goal) in
+    let to = c.in_ok-planned.ensures.same.goal ∙ c.requires.can.set.between.to_is in
+    let inside : to_of back c.args.at.start task.goal < n.states =
+    subst (λ (k : ℕ). to_of back c.args.at.start task.goal < k) (g.met.W.Workspace.same_states w)
+    (to_inside back c.args.at.start task.goal (g.W.Workspace.reporting.told w).states c.requires.can.start_inside c.requires.can.goal_inside) in
     record {
       ended = record {
         states =
@@ -170,10 +171,10 @@ section_of-requires g c =
     }
 
 pub record_of-requires-clause-start : goal.record_of-requires-clause-start
-record_of-requires-clause-start g c = rw (c.world.ensures.value, c.plan.ensures.world) c.requires.start
+record_of-requires-clause-start g c = rw (c.world.ensures.value, c.plan.ensures.world) c.requires.can.start_inside
 
 pub record_of-requires-clause-goal : goal.record_of-requires-clause-goal
-record_of-requires-clause-goal g c = rw (c.world.ensures.value, c.plan.ensures.world) c.requires.goal
+record_of-requires-clause-goal g c = rw (c.world.ensures.value, c.plan.ensures.world) c.requires.can.goal_inside
 
 pub record_of-requires-clause-so : goal.record_of-requires-clause-so
 record_of-requires-clause-so g c =
@@ -182,10 +183,10 @@ record_of-requires-clause-so g c =
     let n = g.W.Graph.network c.args.session.now.world in
     let made = c.in_ok-planned.ensures.planned in
     rw (c.world.ensures.value, c.plan.ensures.world)
-    (subst (λ (s : ℕ). IsTrueOutcome n s (to_of back c.args.turn.start task.goal) c.in_ok-planned.planned.outcome)
-    c.requires.set.between.from_is
+    (subst (λ (s : ℕ). IsTrueOutcome n s (to_of back c.args.at.start task.goal) c.in_ok-planned.planned.outcome)
+    c.requires.can.set.between.from_is
     (subst (λ (t : ℕ). IsTrueOutcome n c.args.session.now.search.labels.start t
-    c.in_ok-planned.planned.outcome) c.requires.set.between.to_is made.so))
+    c.in_ok-planned.planned.outcome) c.requires.can.set.between.to_is made.so))
 
 pub returns-clause-searched : goal.returns-clause-searched
 returns-clause-searched g c = λ before goes.
@@ -194,18 +195,16 @@ returns-clause-searched g c = λ before goes.
     let w = c.args.session.now.world in
     let n = g.W.Graph.network w in
     let means = g.S.Search.meaning in
-    let by : PlannerOn _ =
-    planner_on (site_of g.W.Graph.network g.W.Terrain.cells g.W.Best.Heuristic.says g.W.Workspace.reporting)
-    means g.S.Action.Traced.line in
-    let set = c.requires.set in
+    let by : PlannerOn _ = planner_on (site_of g.W.Graph g.W.Terrain g.W.Workspace) means g.S.Action.Traced.line in
+    let set = c.requires.can.set in
     let planned = c.in_ok-planned.planned in
     let made = c.in_ok-planned.ensures.planned in
     let within = c.in_ok-planned.ensures.within in
     let old = standing_of c.args.session.now in
     let new = standing_of c.plan.new.self in
     let guide = g.W.Best.Guide.distance c.args.session.now.guide in
-    let from = from_of back c.args.turn.start task.goal in
-    let to = to_of back c.args.turn.start task.goal in
+    let from = from_of back c.args.at.start task.goal in
+    let to = to_of back c.args.at.start task.goal in
     let rises : new.counts.run ≡ old.counts.run + expansions planned.passes =
     ap (λ (k : Counts). k.run) made.leaves.counted in
     let run : new.counts.run ≡ expanded_before before + expansions planned.passes =
@@ -213,12 +212,12 @@ returns-clause-searched g c = λ before goes.
     let of_plan : new.counts.plan ≡ 0 + expansions planned.passes = ap (λ (k : Counts). k.plan) made.leaves.counted in
     let used : c.expanded-expanded.result ≡ expansions planned.passes =
     omega (arith, c.expanded-expanded.ensures.value, of_plan) in
-    searched_by by w guide c.args.turn.start task.goal task.how.now task.outputs.now before old.search.labels
+    searched_by by w guide c.args.at.start task.goal task.how.now task.outputs.now before old.search.labels
     new.search.labels old.search.raised
     old.counts.per_plan new.counts.run c.expanded-expanded.result planned c.in_ok-labels.labels c.ask_of-ask.result
-    (is_some task.outputs.now.labels) c.args.turn.plan c.record_of.result
-    (guided g.W.Best.Heuristic.is_made_for g.W.Best.Heuristic.says g.W.Best.Guide.distance
-    g.met.W.Best.Heuristic.says_so c.args.session.now from to c.requires.ready set.between) goes.begins
+    (is_some task.outputs.now.labels) c.args.at.plan c.record_of.result
+    (guided g.W.Best.Heuristic.is_made_for g.W.Workspace.says g.W.Best.Guide.distance
+    g.met.W.Workspace.says_so c.args.session.now from to c.requires.can.ready set.between) goes.begins
     c.ask_of-ask.ensures.ask
     (subst (λ (t : ℕ). ArePasses means (inquiry_of n guide t c.ask_of-ask.result) c.ask_of-ask.result.first
     old.search.labels planned.passes new.search.labels planned.spent) set.between.to_is made.passes)
@@ -228,13 +227,13 @@ returns-clause-searched g c = λ before goes.
     (λ is ample. made.enough is (omega (arith, ample, set.budget_is)))
     refl
     (subst (λ (h : ℕ → ℕ). IsThere (is_some task.outputs.now.labels) (IsShown task.outputs.now.form n h from to
-    c.args.turn.plan new.search.labels planned.outcome) c.in_ok-labels.labels)
+    c.args.at.plan new.search.labels planned.outcome) c.in_ok-labels.labels)
     (ap g.W.Best.Guide.distance c.plan.ensures.guide)
     (subst (λ (s : ℕ). IsThere (is_some task.outputs.now.labels) (IsShown task.outputs.now.form n
-    (g.W.Best.Guide.distance c.plan.new.self.guide) s to c.args.turn.plan new.search.labels planned.outcome)
+    (g.W.Best.Guide.distance c.plan.new.self.guide) s to c.args.at.plan new.search.labels planned.outcome)
     c.in_ok-labels.labels) (c.in_ok-planned.ensures.same.start ∙ set.between.from_is)
     (subst (λ (t : ℕ). IsThere (is_some task.outputs.now.labels) (IsShown task.outputs.now.form n
-    (g.W.Best.Guide.distance c.plan.new.self.guide) new.search.labels.start t c.args.turn.plan new.search.labels
+    (g.W.Best.Guide.distance c.plan.new.self.guide) new.search.labels.start t c.args.at.plan new.search.labels
     planned.outcome) c.in_ok-labels.labels)
     (c.in_ok-planned.ensures.same.goal ∙ set.between.to_is)
     (rw c.plan.ensures.world at c.in_ok-labels.ensures.shown))))
@@ -271,9 +270,8 @@ pub returns-clause-promises : goal.returns-clause-promises
 returns-clause-promises g c =
     let bound = ap (λ (a : Ask). a.bound) c.ask_of-ask.ensures.ask in
     let made = rw (c.world.ensures.value, c.plan.ensures.world) at c.record_of.ensures in
-    promises_by (site_of g.W.Graph.network g.W.Terrain.cells g.W.Best.Heuristic.says g.W.Workspace.reporting)
-    c.args.session.now.world c.args.turn.start c.args.task.now.goal _ _ c.in_ok-planned.planned c.record_of.result
-    made.joins made.within_the_bound made.none made.marked
+    promises_by (site_of g.W.Graph g.W.Terrain g.W.Workspace) c.args.session.now.world c.args.at.start c.args.task.now.goal
+    _ _ c.in_ok-planned.planned c.record_of.result made.joins made.within_the_bound made.none made.marked
     (λ is. subst (λ (b : ℕ). search.IsConclusive b c.in_ok-planned.planned.outcome) bound
     (c.in_ok-planned.ensures.planned.answered is)) made.answered
 
@@ -310,7 +308,7 @@ if_shown line log shown plan ps (Err e) number passes is = tt
 pub returns-clause-shown : goal.returns-clause-shown
 returns-clause-shown g c =
     if_shown g.S.Action.Traced.line _ _ _ _ c.record_of.result c.record_of.ensures.number c.record_of.ensures.passes
-    (c.newest.ensures.published ∙ shown c.args.live.now c.begin.new.self c.plan.new.observer c.args.turn.plan c.begin.ensures.same
+    (c.newest.ensures.published ∙ shown c.args.live.now c.begin.new.self c.plan.new.observer c.args.at.plan c.begin.ensures.same
     c.begin.ensures.entries c.begin.ensures.plan _ c.in_ok-planned.ensures.told)
 
 pub returns-in_err-raised-clause-broken : goal.returns-in_err-raised-clause-broken
@@ -322,115 +320,107 @@ returns-in_err-planned-clause-broken g c = λ before goes.
     let task = c.args.task.now in
     let back = g.W.Workspace.reporting.back in
     let w = c.args.session.now.world in
-    let by : PlannerOn _ =
-    planner_on (site_of g.W.Graph.network g.W.Terrain.cells g.W.Best.Heuristic.says g.W.Workspace.reporting)
-    g.S.Search.meaning g.S.Action.Traced.line in
+    let by : PlannerOn _ = planner_on (site_of g.W.Graph g.W.Terrain g.W.Workspace) g.S.Search.meaning g.S.Action.Traced.line in
     let guide = g.W.Best.Guide.distance c.args.session.now.guide in
-    let from = from_of back c.args.turn.start task.goal in
-    let to = to_of back c.args.turn.start task.goal in
+    let from = from_of back c.args.at.start task.goal in
+    let to = to_of back c.args.at.start task.goal in
     on_err_is _ c.from_residual-in_err-planned.result
-    (stands_broken by w guide c.args.turn.start task.goal c.args.turn.plan task.how.now task.outputs.now _ _ before _
+    (stands_broken by w guide c.args.at.start task.goal c.args.at.plan task.how.now task.outputs.now _ _ before _
     (standing_of c.args.session.now) (standing_of c.plan.new.self) c.ask_of-ask.result
-    (guided g.W.Best.Heuristic.is_made_for g.W.Best.Heuristic.says g.W.Best.Guide.distance
-    g.met.W.Best.Heuristic.says_so c.args.session.now from to c.requires.ready c.requires.set.between)
-    goes.begins c.ask_of-ask.ensures.ask c.requires.set.between.to_is
-    (stands_so _ _ (λ ps told. shown c.args.live.now c.begin.new.self c.plan.new.observer c.args.turn.plan c.begin.ensures.same
+    (guided g.W.Best.Heuristic.is_made_for g.W.Workspace.says g.W.Best.Guide.distance
+    g.met.W.Workspace.says_so c.args.session.now from to c.requires.can.ready c.requires.can.set.between)
+    goes.begins c.ask_of-ask.ensures.ask c.requires.can.set.between.to_is
+    (stands_so _ _ (λ ps told. shown c.args.live.now c.begin.new.self c.plan.new.observer c.args.at.plan c.begin.ensures.same
     c.begin.ensures.entries c.begin.ensures.plan ps told) c.in_err-planned.ensures.memory))
 
 pub returns-in_err-incumbent-clause-broken : goal.returns-in_err-incumbent-clause-broken
 returns-in_err-incumbent-clause-broken g c = λ before goes.
     let task = c.args.task.now in
-    let by : PlannerOn _ =
-    planner_on (site_of g.W.Graph.network g.W.Terrain.cells g.W.Best.Heuristic.says g.W.Workspace.reporting)
-    g.S.Search.meaning g.S.Action.Traced.line in
+    let by : PlannerOn _ = planner_on (site_of g.W.Graph g.W.Terrain g.W.Workspace) g.S.Search.meaning g.S.Action.Traced.line in
     let w = c.args.session.now.world in
     let back = g.W.Workspace.reporting.back in
     let guide = g.W.Best.Guide.distance c.args.session.now.guide in
-    let from = from_of back c.args.turn.start task.goal in
-    let to = to_of back c.args.turn.start task.goal in
+    let from = from_of back c.args.at.start task.goal in
+    let to = to_of back c.args.at.start task.goal in
     let old = standing_of c.args.session.now in
     let ask = c.ask_of-ask.result in
     let planned = c.in_ok-planned.planned in
     let left = c.plan.new.self.search.labels in
     on_err_is _ c.from_residual-in_err-incumbent.result
-    (broken_by by w guide c.args.turn.start task.goal c.args.turn.plan task.how.now task.outputs.now _ _ before
+    (broken_by by w guide c.args.at.start task.goal c.args.at.plan task.how.now task.outputs.now _ _ before
     old ask left planned.passes
-    (guided g.W.Best.Heuristic.is_made_for g.W.Best.Heuristic.says g.W.Best.Guide.distance
-    g.met.W.Best.Heuristic.says_so c.args.session.now from to c.requires.ready c.requires.set.between)
-    goes.begins c.ask_of-ask.ensures.ask c.requires.set.between.to_is
+    (guided g.W.Best.Heuristic.is_made_for g.W.Workspace.says g.W.Best.Guide.distance
+    g.met.W.Workspace.says_so c.args.session.now from to c.requires.can.ready c.requires.can.set.between)
+    goes.begins c.ask_of-ask.ensures.ask c.requires.can.set.between.to_is
     (first_of_all by.means (inquiry (g.W.Graph.network w) guide old ask) planned.passes ask.first old.search.labels left
     planned.spent c.in_ok-planned.ensures.planned.passes)
-    (c.newest.ensures.published ∙ shown c.args.live.now c.begin.new.self c.plan.new.observer c.args.turn.plan c.begin.ensures.same
+    (c.newest.ensures.published ∙ shown c.args.live.now c.begin.new.self c.plan.new.observer c.args.at.plan c.begin.ensures.same
     c.begin.ensures.entries c.begin.ensures.plan _ c.in_ok-planned.ensures.told))
 
 pub returns-in_err-labels-clause-broken : goal.returns-in_err-labels-clause-broken
 returns-in_err-labels-clause-broken g c = λ before goes.
     let task = c.args.task.now in
-    let by : PlannerOn _ =
-    planner_on (site_of g.W.Graph.network g.W.Terrain.cells g.W.Best.Heuristic.says g.W.Workspace.reporting)
-    g.S.Search.meaning g.S.Action.Traced.line in
+    let by : PlannerOn _ = planner_on (site_of g.W.Graph g.W.Terrain g.W.Workspace) g.S.Search.meaning g.S.Action.Traced.line in
     let w = c.args.session.now.world in
     let back = g.W.Workspace.reporting.back in
     let guide = g.W.Best.Guide.distance c.args.session.now.guide in
-    let from = from_of back c.args.turn.start task.goal in
-    let to = to_of back c.args.turn.start task.goal in
+    let from = from_of back c.args.at.start task.goal in
+    let to = to_of back c.args.at.start task.goal in
     let old = standing_of c.args.session.now in
     let ask = c.ask_of-ask.result in
     let planned = c.in_ok-planned.planned in
     let left = c.plan.new.self.search.labels in
     on_err_is _ c.from_residual-in_err-labels.result
-    (broken_by by w guide c.args.turn.start task.goal c.args.turn.plan task.how.now task.outputs.now _ _ before
+    (broken_by by w guide c.args.at.start task.goal c.args.at.plan task.how.now task.outputs.now _ _ before
     old ask left planned.passes
-    (guided g.W.Best.Heuristic.is_made_for g.W.Best.Heuristic.says g.W.Best.Guide.distance
-    g.met.W.Best.Heuristic.says_so c.args.session.now from to c.requires.ready c.requires.set.between)
-    goes.begins c.ask_of-ask.ensures.ask c.requires.set.between.to_is
+    (guided g.W.Best.Heuristic.is_made_for g.W.Workspace.says g.W.Best.Guide.distance
+    g.met.W.Workspace.says_so c.args.session.now from to c.requires.can.ready c.requires.can.set.between)
+    goes.begins c.ask_of-ask.ensures.ask c.requires.can.set.between.to_is
     (first_of_all by.means (inquiry (g.W.Graph.network w) guide old ask) planned.passes ask.first old.search.labels left
     planned.spent c.in_ok-planned.ensures.planned.passes)
-    (c.newest.ensures.published ∙ shown c.args.live.now c.begin.new.self c.plan.new.observer c.args.turn.plan c.begin.ensures.same
+    (c.newest.ensures.published ∙ shown c.args.live.now c.begin.new.self c.plan.new.observer c.args.at.plan c.begin.ensures.same
     c.begin.ensures.entries c.begin.ensures.plan _ c.in_ok-planned.ensures.told))
 
 pub returns-clause-broken : goal.returns-clause-broken
 returns-clause-broken g c = λ before goes.
     let task = c.args.task.now in
-    let by : PlannerOn _ =
-    planner_on (site_of g.W.Graph.network g.W.Terrain.cells g.W.Best.Heuristic.says g.W.Workspace.reporting)
-    g.S.Search.meaning g.S.Action.Traced.line in
+    let by : PlannerOn _ = planner_on (site_of g.W.Graph g.W.Terrain g.W.Workspace) g.S.Search.meaning g.S.Action.Traced.line in
     let w = c.args.session.now.world in
     let back = g.W.Workspace.reporting.back in
     let guide = g.W.Best.Guide.distance c.args.session.now.guide in
-    let from = from_of back c.args.turn.start task.goal in
-    let to = to_of back c.args.turn.start task.goal in
+    let from = from_of back c.args.at.start task.goal in
+    let to = to_of back c.args.at.start task.goal in
     let old = standing_of c.args.session.now in
     let ask = c.ask_of-ask.result in
     let planned = c.in_ok-planned.planned in
     let left = c.plan.new.self.search.labels in
     on_err_is _ c.record_of.result
-    (broken_by by w guide c.args.turn.start task.goal c.args.turn.plan task.how.now task.outputs.now _ _ before
+    (broken_by by w guide c.args.at.start task.goal c.args.at.plan task.how.now task.outputs.now _ _ before
     old ask left planned.passes
-    (guided g.W.Best.Heuristic.is_made_for g.W.Best.Heuristic.says g.W.Best.Guide.distance
-    g.met.W.Best.Heuristic.says_so c.args.session.now from to c.requires.ready c.requires.set.between)
-    goes.begins c.ask_of-ask.ensures.ask c.requires.set.between.to_is
+    (guided g.W.Best.Heuristic.is_made_for g.W.Workspace.says g.W.Best.Guide.distance
+    g.met.W.Workspace.says_so c.args.session.now from to c.requires.can.ready c.requires.can.set.between)
+    goes.begins c.ask_of-ask.ensures.ask c.requires.can.set.between.to_is
     (first_of_all by.means (inquiry (g.W.Graph.network w) guide old ask) planned.passes ask.first old.search.labels left
     planned.spent c.in_ok-planned.ensures.planned.passes)
-    (c.newest.ensures.published ∙ shown c.args.live.now c.begin.new.self c.plan.new.observer c.args.turn.plan c.begin.ensures.same
+    (c.newest.ensures.published ∙ shown c.args.live.now c.begin.new.self c.plan.new.observer c.args.at.plan c.begin.ensures.same
     c.begin.ensures.entries c.begin.ensures.plan _ c.in_ok-planned.ensures.told))
 
 -- ---- the board
 
 pub returns-in_err-planned-clause-same : goal.returns-in_err-planned-clause-same
 returns-in_err-planned-clause-same g c =
-    same_if c.args.live.now c.begin.new.self c.plan.new.observer c.args.turn.plan c.begin.ensures.same
+    same_if c.args.live.now c.begin.new.self c.plan.new.observer c.args.at.plan c.begin.ensures.same
     c.begin.ensures.entries c.begin.ensures.plan _
-    (stands_same c.args.live.now c.begin.new.self c.plan.new.observer c.args.turn.plan c.begin.ensures.same
+    (stands_same c.args.live.now c.begin.new.self c.plan.new.observer c.args.at.plan c.begin.ensures.same
     c.begin.ensures.entries c.begin.ensures.plan) c.plan.result
     c.plan.ensures.told c.plan.ensures.memory
 
 pub returns-in_err-incumbent-clause-same : goal.returns-in_err-incumbent-clause-same
 returns-in_err-incumbent-clause-same g c =
     then_same c.args.live.now c.plan.new.observer c.newest.new.self
-    (same_if c.args.live.now c.begin.new.self c.plan.new.observer c.args.turn.plan c.begin.ensures.same
+    (same_if c.args.live.now c.begin.new.self c.plan.new.observer c.args.at.plan c.begin.ensures.same
     c.begin.ensures.entries c.begin.ensures.plan _
-    (stands_same c.args.live.now c.begin.new.self c.plan.new.observer c.args.turn.plan c.begin.ensures.same
+    (stands_same c.args.live.now c.begin.new.self c.plan.new.observer c.args.at.plan c.begin.ensures.same
     c.begin.ensures.entries c.begin.ensures.plan) c.plan.result
     c.plan.ensures.told c.plan.ensures.memory)
     c.newest.ensures.same
@@ -438,9 +428,9 @@ returns-in_err-incumbent-clause-same g c =
 pub returns-in_err-labels-clause-same : goal.returns-in_err-labels-clause-same
 returns-in_err-labels-clause-same g c =
     then_same c.args.live.now c.plan.new.observer c.newest.new.self
-    (same_if c.args.live.now c.begin.new.self c.plan.new.observer c.args.turn.plan c.begin.ensures.same
+    (same_if c.args.live.now c.begin.new.self c.plan.new.observer c.args.at.plan c.begin.ensures.same
     c.begin.ensures.entries c.begin.ensures.plan _
-    (stands_same c.args.live.now c.begin.new.self c.plan.new.observer c.args.turn.plan c.begin.ensures.same
+    (stands_same c.args.live.now c.begin.new.self c.plan.new.observer c.args.at.plan c.begin.ensures.same
     c.begin.ensures.entries c.begin.ensures.plan) c.plan.result
     c.plan.ensures.told c.plan.ensures.memory)
     c.newest.ensures.same
@@ -448,9 +438,9 @@ returns-in_err-labels-clause-same g c =
 pub returns-clause-same : goal.returns-clause-same
 returns-clause-same g c =
     then_same c.args.live.now c.plan.new.observer c.newest.new.self
-    (same_if c.args.live.now c.begin.new.self c.plan.new.observer c.args.turn.plan c.begin.ensures.same
+    (same_if c.args.live.now c.begin.new.self c.plan.new.observer c.args.at.plan c.begin.ensures.same
     c.begin.ensures.entries c.begin.ensures.plan _
-    (stands_same c.args.live.now c.begin.new.self c.plan.new.observer c.args.turn.plan c.begin.ensures.same
+    (stands_same c.args.live.now c.begin.new.self c.plan.new.observer c.args.at.plan c.begin.ensures.same
     c.begin.ensures.entries c.begin.ensures.plan) c.plan.result
     c.plan.ensures.told c.plan.ensures.memory)
     c.newest.ensures.same

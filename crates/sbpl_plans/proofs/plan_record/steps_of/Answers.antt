@@ -1,7 +1,8 @@
 use Rattle.std.proofs.Common.{◌≡◌, ℕ, ◌+◌, ◌<◌, ◌≤◌, [], ◌∷◌, List, length, drop, get_or, subst, add-one, drop-cons}
 use Rattle.std.proofs.lemmas.List.{drop_all}
 use Rattle.sbpl_worlds.specs.sbpl_promises.Headline.{IsPathFrom}
-use Rattle.sbpl_worlds.specs.sbpl_promises.Sites.{Site, site_of}
+use Rattle.sbpl_worlds.specs.sbpl_promises.Sites.{Site}
+use Rattle.sbpl_worlds.proofs.Workspaces.{site_of}
 use Rattle.sbpl_plans.proofs.PathSteps.{Completes, all_done, first_arc, one_more, path_after}
 use Rattle.sbpl_plans.proofs.plan_record.steps_of.Goals as goal
 
@@ -26,7 +27,7 @@ step-head-requires g c =
 pub loop-arc-preserved : goal.loop-arc-preserved
 loop-arc-preserved g c =
     let w = c.args.world.now in
-    let on : Site _ = site_of g.W.Graph.network g.W.Terrain.cells g.W.Best.Heuristic.says g.W.Workspace.reporting in
+    let on : Site _ = site_of g.W.Graph g.W.Terrain g.W.Workspace in
     let split = left_is c.args.arcs.now c.loop-arc.arc-index c.loop-arc-test.true in
     let left =
     subst (λ (l : List ℕ). IsPathFrom (g.W.Workspace.reporting.told w) c.loop-arc.at l) split c.loop-arc.invariant.left in
@@ -44,7 +45,7 @@ loop-arc-preserved g c =
 pub returns : goal.returns
 returns g c =
     let w = c.args.world.now in
-    let on : Site _ = site_of g.W.Graph.network g.W.Terrain.cells g.W.Best.Heuristic.says g.W.Workspace.reporting in
+    let on : Site _ = site_of g.W.Graph g.W.Terrain g.W.Workspace in
     let over = none_left c.args.arcs.now c.loop-arc.arc-index c.loop-arc-test.false in
     let done =
     subst (λ (l : List ℕ). Completes on w c.args.from c.args.arcs.now c.loop-arc.at l c.loop-arc.steps.items) over

@@ -1,6 +1,6 @@
 use Rattle.std.proofs.Common.{drop}
 use Rattle.sbpl_worlds.specs.sbpl_promises.Headline.{IsPathFrom}
-use Rattle.sbpl_worlds.specs.sbpl_promises.Sites.{site_of}
+use Rattle.sbpl_worlds.proofs.Workspaces.{site_of}
 use Rattle.sbpl_plans.proofs.PathSteps.{Completes}
 use Rattle.sbpl_plans.proofs.plan_record.steps_of.Given as goal
 
@@ -8,6 +8,6 @@ use Rattle.sbpl_plans.proofs.plan_record.steps_of.Given as goal
 abbrev pub invariant-loop-arc : goal.invariant-loop-arc
 invariant-loop-arc g l = record {
   left : IsPathFrom (g.W.Workspace.reporting.told l.world) l.at (drop l.arc-index l.arcs);
-  done : Completes (site_of g.W.Graph.network g.W.Terrain.cells g.W.Best.Heuristic.says g.W.Workspace.reporting) l.world
-      l.from l.arcs l.at (drop l.arc-index l.arcs) l.steps.items;
+  done : Completes (site_of g.W.Graph g.W.Terrain g.W.Workspace) l.world l.from l.arcs
+      l.at (drop l.arc-index l.arcs) l.steps.items;
 }

@@ -3,12 +3,14 @@ use Rattle.sbpl_worlds.specs.sbpl_cfg.declared.pose.Place.{Place}
 use Rattle.sbpl_worlds.specs.sbpl_map.ChangeText.{IsPlaceOnMap}
 use Rattle.sbpl_plans.proofs.Observed.{then_same}
 use Rattle.sbpl_plans.proofs.Going.{at_last, changes, no_more, sets_out, stops, tells_last, tells_no_more}
-use Rattle.sbpl_worlds.specs.sbpl_promises.Sites.{Site, site_of, to_of}
+use Rattle.sbpl_worlds.specs.sbpl_promises.Sites.{Site, to_of}
 use Rattle.sbpl_worlds.proofs.Moving.{alike_over, move_on_map, next_is, start_first, stays_put, within}
 use Rattle.sbpl_worlds.proofs.OnMaps.{batch_on_map, same_told_states, to_inside}
+use Rattle.sbpl_worlds.proofs.Workspaces.{site_of}
 use Rattle.sbpl_telling.proofs.Writings.{status_ends}
 use Rattle.sbpl_worlds.specs.sbpl_replan.Replanning.{IsAimed, standing_of}
 use Rattle.sbpl_plans.proofs.plans.go_through.Goals as goal
+use Rattle.sbpl_plans.proofs.plans.go_through.Goals.{After-change}
 use Rattle.sbpl_telling.proofs.Frames.{nothing_done, writes_more, writes_on}
 
 pub loop-k-init : goal.loop-k-init
@@ -21,17 +23,11 @@ loop-k-init g c = record {
       c.args.task.now.updates.now.moves)) c.in-Ok.ensures.set c.in-Ok.ensures.begun);
   ready = c.in-Ok.ensures.ready;
   inside = rw c.in-Ok.ensures.world c.requires.task.start;
+  goal_inside = rw c.in-Ok.ensures.world c.requires.task.goal;
   frame = nothing_done _ _;
   publisher = (refl, refl);
   grown = omega arith;
 }
-
-pub make_plan-requires-clause-goal : goal.make_plan-requires-clause-goal
-make_plan-requires-clause-goal g c =
-    subst (λ (n : ℕ). c.args.task.now.goal < n)
-    (same_told_states g.W.Graph.network g.W.Workspace.reporting.told g.W.Terrain.cells g.met.W.Workspace.same_states
-    c.is_terrain.ensures.law _ _ c.requires.task.kept c.loop-k.invariant.going.kept
-    c.loop-k.invariant.going.same) c.requires.task.goal
 
 pub returns-in-Err-clause-ends : goal.returns-in-Err-clause-ends
 returns-in-Err-clause-ends g c = no_more (omega arith) (λ name. refl)
@@ -57,7 +53,7 @@ start_at-start-requires-clause-place g c =
     let now = c.change.new.self.world in
     let going = c.loop-k.invariant.going in
     let cells = g.W.Terrain.cells in
-    let on : Site _ = site_of g.W.Graph.network g.W.Terrain.cells g.W.Best.Heuristic.says g.W.Workspace.reporting in
+    let on : Site _ = site_of g.W.Graph g.W.Terrain g.W.Workspace in
     let others = rw c.make_plan.ensures.world at c.change.ensures.others in
     let written = rw c.make_plan.ensures.world at c.in_default-change.ensures.written in
     let same : now ≡ cells.over w (cells.map now) =
@@ -75,13 +71,18 @@ start_at-start-requires-clause-place g c =
     (move_on_map on w (cells.map now) c.args.task.now.updates.now.batches c.args.task.now.updates.now.moves c.loop-k.k
     c.requires.task.updates.moves here next.width next.height)))
 
+-- the map after the batch has as many states
+as_many : (g : _) (c : After-change g) → (g.W.Workspace.reporting.told c.loop-k.session.world).states
+    ≡ (g.W.Workspace.reporting.told c.change.new.self.world).states
+as_many g c =
+    same_told_states g.W.Graph.network g.W.Workspace.reporting.told g.W.Terrain.cells g.met.W.Workspace.same_states
+    c.is_terrain.ensures.law _ _ c.loop-k.invariant.going.kept c.change.ensures.kept
+    (rw c.make_plan.ensures.world at c.change.ensures.others)
+
 pub start_at-start-requires-clause-start : goal.start_at-start-requires-clause-start
 start_at-start-requires-clause-start g c =
-    let others = rw c.make_plan.ensures.world at c.change.ensures.others in
     rw c.world.ensures.value (subst (λ (n : ℕ). c.loop-k.start < n)
-    (same_told_states g.W.Graph.network g.W.Workspace.reporting.told
-    g.W.Terrain.cells g.met.W.Workspace.same_states c.is_terrain.ensures.law _ _
-    c.loop-k.invariant.going.kept c.change.ensures.kept others) c.loop-k.invariant.inside)
+    (as_many g (goal.at.start_at-start-requires-clause-start g c).After-change) c.loop-k.invariant.inside)
 
 pub returns-in-Err-aim-clause-ends : goal.returns-in-Err-aim-clause-ends
 returns-in-Err-aim-clause-ends g c =
@@ -91,18 +92,11 @@ returns-in-Err-aim-clause-ends g c =
 -- where the next search goes is a state
 pub aim-requires : goal.aim-requires
 aim-requires g c =
-    let w = c.args.world in
     let now = c.change.new.self.world in
-    let cells = g.W.Terrain.cells in
     let back = g.W.Workspace.reporting.back in
-    let others = rw c.make_plan.ensures.world at c.change.ensures.others in
-    let same : now ≡ cells.over w (cells.map now) =
-    others ∙ ap (λ v. cells.over v (cells.map now)) c.loop-k.invariant.going.same
-    ∙ c.is_terrain.ensures.law.again w (cells.map c.loop-k.session.world) (cells.map now) in
     let goal_inside =
-    subst (λ (n : ℕ). c.args.task.now.goal < n)
-    (same_told_states g.W.Graph.network g.W.Workspace.reporting.told cells g.met.W.Workspace.same_states
-    c.is_terrain.ensures.law _ _ c.requires.task.kept c.change.ensures.kept same) c.requires.task.goal in
+    subst (λ (n : ℕ). c.args.task.now.goal < n) (as_many g (goal.at.aim-requires g c).After-change)
+    c.loop-k.invariant.goal_inside in
     let inside = rw c.world.ensures.value at c.start_at-start.ensures.inside in
     let there =
     to_inside back c.start_at-start.result c.args.task.now.goal (g.W.Workspace.reporting.told now).states
@@ -123,7 +117,7 @@ loop-k-preserved g c =
     let k = c.loop-k.k in
     let going = c.loop-k.invariant.going in
     let cells = g.W.Terrain.cells in
-    let on : Site _ = site_of g.W.Graph.network g.W.Terrain.cells g.W.Best.Heuristic.says g.W.Workspace.reporting in
+    let on : Site _ = site_of g.W.Graph g.W.Terrain g.W.Workspace in
     let others = rw c.make_plan.ensures.world at c.change.ensures.others in
     let changed = rw c.make_plan.ensures.world at c.in_default-change.ensures in
     let start = rw c.world.ensures.value at c.start_at-start.ensures in
@@ -152,17 +146,13 @@ loop-k-preserved g c =
           c.way-from.ensures.to c.in_default-aim.ensures.aimed));
       ready = c.in_default-aim.ensures.ready;
       inside = rw c.aim.ensures.world start.inside;
+      goal_inside =
+          rw c.aim.ensures.world (subst (λ (n : ℕ). c.args.task.now.goal < n)
+          (as_many g (goal.at.loop-k-preserved g c).After-change) c.loop-k.invariant.goal_inside);
       frame = writes_on _ _ _ _ c.loop-k.invariant.frame c.make_plan.ensures.frame;
       publisher = then_same c.args.live.now c.loop-k.live c.make_plan.new.live c.loop-k.invariant.publisher c.make_plan.ensures.same;
       grown = let was = c.loop-k.invariant.grown in let more = c.make_plan.ensures.grown in omega arith;
     }
-
-pub make_plan-requires-2-clause-goal : goal.make_plan-requires-2-clause-goal
-make_plan-requires-2-clause-goal g c =
-    subst (λ (n : ℕ). c.args.task.now.goal < n)
-    (same_told_states g.W.Graph.network g.W.Workspace.reporting.told g.W.Terrain.cells g.met.W.Workspace.same_states
-    c.is_terrain.ensures.law _ _ c.requires.task.kept c.loop-k.invariant.going.kept
-    c.loop-k.invariant.going.same) c.requires.task.goal
 
 pub returns-in-Ok-make_plan-clause-ends : goal.returns-in-Ok-make_plan-clause-ends
 returns-in-Ok-make_plan-clause-ends g c =

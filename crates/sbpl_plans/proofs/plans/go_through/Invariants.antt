@@ -1,20 +1,19 @@
 use Rattle.std.proofs.Common.{◌+◌, ◌*◌, ◌<◌, ◌≤◌, length}
 use Rattle.sbpl_worlds.specs.sbpl_plan.Asked.{MOST_PASSES}
-use Rattle.sbpl_worlds.specs.sbpl_promises.Sites.{site_of, start_after}
+use Rattle.sbpl_worlds.specs.sbpl_promises.Sites.{start_after}
 use Rattle.sbpl_worlds.specs.sbpl_promises.Writing.{WritesOnly}
 use Rattle.sbpl_plans.specs.Boards.{IsSamePublisher, entries_of}
 use Rattle.sbpl_plans.proofs.Going.{IsGoing}
 use Rattle.sbpl_worlds.specs.sbpl_promises.Asked.{planner_on}
 use Rattle.sbpl_worlds.specs.sbpl_replan.Replanning.{IsReady, standing_of}
+use Rattle.sbpl_worlds.proofs.Workspaces.{site_of}
 use Rattle.sbpl_plans.proofs.plans.go_through.Given as goal
 
--- the plans so far were made and told, the map is that after this number of batches, and the start is a state
+-- the plans so far were made and told, the map is that after this number of batches, and the start and the goal are states
 abbrev pub invariant-loop-k : goal.invariant-loop-k
 invariant-loop-k g l = record {
   going : IsGoing (record {
-    by =
-        planner_on (site_of g.W.Graph.network g.W.Terrain.cells g.W.Best.Heuristic.says g.W.Workspace.reporting)
-        g.S.Search.meaning g.S.Action.Traced.line;
+    by = planner_on (site_of g.W.Graph g.W.Terrain g.W.Workspace) g.S.Search.meaning g.S.Action.Traced.line;
     written_of = g.T.Telling.written l.fn.telling;
     world = l.fn.world;
     batches = l.fn.task.updates.now.batches;
@@ -26,6 +25,7 @@ invariant-loop-k g l = record {
       (g.D.Desk.state l.fn.desk) (g.D.Desk.state l.desk);
   ready : IsReady g.S.Search.meaning g.W.Graph.network g.W.Best.Heuristic.is_made_for l.session;
   inside : l.start < (g.W.Workspace.reporting.told l.session.world).states;
+  goal_inside : l.fn.task.goal < (g.W.Workspace.reporting.told l.session.world).states;
   publisher : IsSamePublisher l.fn.live l.live;
   grown : length (entries_of l.live) ≤ length (entries_of l.fn.live) + l.k * MOST_PASSES;
   frame : WritesOnly (g.T.Telling.under l.fn.telling) (g.D.Desk.state l.fn.desk) (g.D.Desk.state l.desk);
