@@ -20,6 +20,7 @@ use Rattle.sbpl_checks.specs.Checking.{IsFaultTold, IsPlanIn, stopped, unwritten
 use Rattle.sbpl_checks.specs.declared.label_file.LabelFile.{LabelFile}
 use Rattle.sbpl_telling.specs.declared.ending.Ending.{Ending}
 use Rattle.sbpl_worlds.specs.sbpl_promises.Sites.{Site, from_of, start_after, to_of}
+use Rattle.sbpl_worlds.specs.sbpl_report.Statuses.{number_of}
 use Rattle.sbpl_worlds.specs.sbpl_report.Verdicts.{holds_text}
 use Rattle.sbpl_worlds.specs.sbpl_promises.Writing.{DeskState, EndsAs, IsOutput, WritesOnly, to_output}
 use Rattle.sbpl_telling.proofs.Writings.{ends_as_after, none_made, status_ends}
@@ -28,7 +29,7 @@ use Rattle.sbpl_worlds.proofs.Moving.{start_first}
 
 -- a token is left after the last section
 pub some_left : {left : Left} {t : Piece} {ts : List Piece} {a b : DeskState} (file : LabelFile) (e : Ending)
-    → left.tokens ≡ t ∷ ts → EndsAs a b (to_output (label_fault_text (fault.Trailing t.place)) ∷ []) 10 e.status
+    → left.tokens ≡ t ∷ ts → EndsAs a b (to_output (label_fault_text (fault.Trailing t.place)) ∷ []) 10 (number_of e.status)
     → IsFaultTold file (fault.Trailing t.place) e → EndsText left file a b e
 some_left {t} file e some ends told = record {
   end = Some (section.Fault (fault.Trailing t.place));
@@ -39,7 +40,7 @@ some_left {t} file e some ends told = record {
 
 -- no token is left
 pub none_left : {left : Left} {a b : DeskState} (file : LabelFile) (e : Ending) → left.tokens ≡ []
-    → EndsAs a b (last_write ∷ []) 0 e.status → e.why ≡ [] → EndsText left file a b e
+    → EndsAs a b (last_write ∷ []) 0 (number_of e.status) → e.why ≡ [] → EndsText left file a b e
 none_left file e none ends untold = record { end = None; is_end = none; ends = λ goals plan. ends; told = untold }
 
 module _ {W : Type 0} {on : Site W} (c : Case on) where
@@ -56,7 +57,7 @@ module _ {W : Type 0} {on : Site W} (c : Case on) where
   out_of_memory plan (suc more) left = tt
 
   -- memory ran out before a section
-  pub runs_out : (plan more : ℕ) (left : Left) (file : LabelFile) (a : DeskState) (e : Ending) → e.status ≡ 9
+  pub runs_out : (plan more : ℕ) (left : Left) (file : LabelFile) (a : DeskState) (e : Ending) → number_of e.status ≡ 9
       → e.why ≡ [] → EndsSections c plan more left file a a e
   runs_out plan more left file a e nine untold = record {
     outcomes = [];
@@ -90,7 +91,7 @@ module _ {W : Type 0} {on : Site W} (c : Case on) where
       checked = stopped_in n plan left s after
           (subst (λ (x : ℕ). IsSectionStop n x (to_in c plan) plan left s) (sym from_is)
           (subst (λ (y : ℕ). IsSectionStop n from y plan left s) (sym to_is) is));
-      ends = subst (λ (y : ℕ). EndsAs a b (stop_writes y plan s) (stop_status s) e.status) (sym to_is) ends;
+      ends = subst (λ (y : ℕ). EndsAs a b (stop_writes y plan s) (stop_status s) (number_of e.status)) (sym to_is) ends;
       told = told;
     }
     ends_there more left file a b e (unwritten o rest stop is ends status_is untold) = record {
@@ -126,7 +127,7 @@ module _ {W : Type 0} {on : Site W} (c : Case on) where
     checked = (is.ground, is.is_ground, rest, is.prints.holds, ends.checked);
     ends =
         ends_as_after a b d (to_output (holds_text plan is.prints.outcome) ∷ []) (checked_writes (to_in c) (plan + 1)
-        ends.outcomes ends.end) (checked_status ends.end) e.status is.prints.line low ends.ends;
+        ends.outcomes ends.end) (checked_status ends.end) (number_of e.status) is.prints.line low ends.ends;
     told = ends.told;
   }
 

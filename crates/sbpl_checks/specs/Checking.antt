@@ -14,6 +14,7 @@ use Rattle.sbpl_worlds.specs.sbpl_promises.Checked.{AreChecked, Case, Ground, Is
 use Rattle.sbpl_worlds.specs.sbpl_promises.Intents.{checked_status, checked_writes, stop_status, stop_writes}
 use Rattle.sbpl_worlds.specs.sbpl_promises.declared.section_stop.SectionStop.{SectionStop}
 use Rattle.sbpl_worlds.specs.sbpl_promises.declared.section_stop.SectionStop.TheVariants as section
+use Rattle.sbpl_worlds.specs.sbpl_report.Statuses.{number_of}
 use Rattle.sbpl_worlds.specs.sbpl_report.Verdicts.{holds_text}
 use Rattle.sbpl_worlds.specs.sbpl_promises.Writing.{AreAppended, DeskState, EndsAs, EndsIn, status_after, to_output}
 
@@ -25,8 +26,8 @@ pub record HoldsAndPrints (n : Ground) (start goal plan : ℕ) (left rest : Left
 
 -- what is told of a fault in a file of labels: its place, where the line of the report was written; and nothing otherwise
 pub record IsFaultTold (file : LabelFile) (f : LabelFault) (e : Ending) : Type 0 where
-  pub written : e.status ≡ 10 → IsMessageAt file.name.now file.text.now (place_of f) e.why
-  pub unwritten : e.status ≢ 10 → e.why ≡ []
+  pub written : number_of e.status ≡ 10 → IsMessageAt file.name.now file.text.now (place_of f) e.why
+  pub unwritten : number_of e.status ≢ 10 → e.why ≡ []
 
 -- of how the checking of the sections of such a file ends: nothing but a fault
 abbrev pub IsStopTold : LabelFile → Option SectionStop → Ending → Type 0
@@ -36,17 +37,17 @@ IsStopTold file _ e = e.why ≡ []
 -- the section of a plan does not hold on a graph, or memory ran out, and what is written and told of that; or it holds, and the line that
 -- says so was not written
 pub data EndsAtSection (n : Ground) (start goal plan : ℕ) (left : Left) (file : LabelFile) (before after : DeskState) (e : Ending) : Type 0 where
-  stopped : (s : SectionStop) → IsSectionStop n start goal plan left s → EndsAs before after (stop_writes goal plan s) (stop_status s) e.status → IsStopTold file (Some s) e
+  stopped : (s : SectionStop) → IsSectionStop n start goal plan left s → EndsAs before after (stop_writes goal plan s) (stop_status s) (number_of e.status) → IsStopTold file (Some s) e
       → EndsAtSection n start goal plan left file before after e
   unwritten : (o : Outcome) (rest : Left) (stop : WriteStop) → IsShownHolding n start goal plan left o rest → EndsIn {T = Unit {0}} before after (to_output (holds_text plan o) ∷ []) (Err stop)
-      → e.status ≡ status_after {T = Unit {0}} 9 (Err stop) → e.why ≡ []
+      → number_of e.status ≡ status_after {T = Unit {0}} 9 (Err stop) → e.why ≡ []
       → EndsAtSection n start goal plan left file before after e
 
 -- after the last section no token is left, or one is, and what is written and told of that
 pub record EndsText (left : Left) (file : LabelFile) (before after : DeskState) (e : Ending) : Type 0 where
   pub end : Option SectionStop
   pub is_end : IsEndOfText left end
-  pub ends : (goals : ℕ → ℕ) (plan : ℕ) → EndsAs before after (checked_writes goals plan [] end) (checked_status end) e.status
+  pub ends : (goals : ℕ → ℕ) (plan : ℕ) → EndsAs before after (checked_writes goals plan [] end) (checked_status end) (number_of e.status)
   pub told : IsStopTold file end e
 
 -- how the checking of this number of sections more of a file of labels, the first that of a plan, ends
@@ -54,7 +55,7 @@ pub record EndsSections {W : Type 0} {on : Site W} (c : Case on) (plan more : �
   pub outcomes : List Outcome
   pub end : Option SectionStop
   pub checked : AreChecked IsShownHolding c plan more left outcomes end
-  pub ends : EndsAs before after (checked_writes (to_in c) plan outcomes end) (checked_status end) e.status
+  pub ends : EndsAs before after (checked_writes (to_in c) plan outcomes end) (checked_status end) (number_of e.status)
   pub told : IsStopTold file end e
 
 -- plan k of a case is planned in this world, between these states

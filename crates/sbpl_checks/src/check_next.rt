@@ -6,12 +6,13 @@ ghost use Rattle.sbpl_worlds.specs.sbpl_promises.Checked.{ground};
 ghost use Rattle.sbpl_checks.specs.Checking.{EndsAtSection, HoldsAndPrints, IsFaultTold, IsStopTold};
 ghost use Rattle.sbpl_worlds.specs.sbpl_promises.Intents.{stop_status, stop_writes};
 ghost use Rattle.sbpl_worlds.specs.sbpl_report.Refusals.{label_fault_text};
+ghost use Rattle.sbpl_worlds.specs.sbpl_report.Statuses.{number_of};
 ghost use Rattle.sbpl_worlds.specs.sbpl_report.Verdicts.{flaw_text, holds_text};
 ghost use Rattle.sbpl_worlds.specs.sbpl_promises.Writing.{EndsAs, EndsIn, IsOutput, WritesOnly, to_output};
 
 use crate::label_file::LabelFile;
 use crate::section_check::check_section;
-use sbpl_telling::{Ending, OUTPUT, end_with, status_after, write_text};
+use sbpl_telling::{Ending, OUTPUT, Status, end_with, status_after, write_text};
 use sbpl_worlds::{
     Desk, Flaw, Graph, Guide, LabelFault, NoMemory, Outcome, SectionStop, WriteStop, fault_line,
     flaw_line, holds_line, labels_message,
@@ -20,16 +21,17 @@ use std::alloc::Global;
 
 /// Writes the line of a flaw.
 fn tell_flaw<D: Desk>(alloc: Global, goal: u32, plan: u32, flaw: &Flaw, desk: &mut D) -> Ending
-    ensures ends { EndsAs (D.state desk.old) (D.state desk.new) (to_output (flaw_text goal plan flaw.now) ∷ []) 1 result.status }
+    ensures ends { EndsAs (D.state desk.old) (D.state desk.new) (to_output (flaw_text goal plan flaw.now) ∷ []) 1
+        (number_of result.status) }
     ensures untold { result.why ≡ [] }
     ensures frame { WritesOnly IsOutput (D.state desk.old) (D.state desk.new) }
 {
     match flaw_line(alloc, goal, plan, flaw) {
         Ok(line) => {
             let written = write_text(OUTPUT, line.as_slice(), desk);
-            Ending::plain(alloc, status_after(written, 1))
+            Ending::plain(alloc, status_after(written, Status::FlawFound))
         }
-        Err(NoMemory) => Ending::plain(alloc, 9),
+        Err(NoMemory) => Ending::plain(alloc, Status::NoMemory),
     }
 }
 
@@ -40,16 +42,17 @@ pub(crate) fn tell_fault<D: Desk>(
     fault: &LabelFault,
     desk: &mut D,
 ) -> Ending
-    ensures ends { EndsAs (D.state desk.old) (D.state desk.new) (to_output (label_fault_text fault.now) ∷ []) 10 result.status }
+    ensures ends { EndsAs (D.state desk.old) (D.state desk.new) (to_output (label_fault_text fault.now) ∷ []) 10
+        (number_of result.status) }
     ensures told { IsFaultTold labels.now fault.now result }
     ensures frame { WritesOnly IsOutput (D.state desk.old) (D.state desk.new) }
 {
     let Ok(message) = labels_message(alloc, labels.name.as_str(), labels.text, fault) else {
-        return Ending::plain(alloc, 9);
+        return Ending::plain(alloc, Status::NoMemory);
     };
     match fault_line(alloc, fault) {
-        Ok(line) => end_with(alloc, line.as_slice(), 10, message, desk),
-        Err(NoMemory) => Ending::plain(alloc, 9),
+        Ok(line) => end_with(alloc, line.as_slice(), Status::LabelsRefused, message, desk),
+        Err(NoMemory) => Ending::plain(alloc, Status::NoMemory),
     }
 }
 
@@ -63,14 +66,14 @@ fn tell_stop<D: Desk>(
     desk: &mut D,
 ) -> Ending
     ensures ends { EndsAs (D.state desk.old) (D.state desk.new) (stop_writes goal plan stop.now) (stop_status stop.now)
-        result.status }
+        (number_of result.status) }
     ensures told { IsStopTold labels.now (Some stop.now) result }
     ensures frame { WritesOnly IsOutput (D.state desk.old) (D.state desk.new) }
 {
     match stop {
         SectionStop::Flaw(flaw) => tell_flaw(alloc, goal, plan, flaw, desk),
         SectionStop::Fault(fault) => tell_fault(alloc, labels, fault, desk),
-        SectionStop::NoMemory => Ending::plain(alloc, 9),
+        SectionStop::NoMemory => Ending::plain(alloc, Status::NoMemory),
     }
 }
 
@@ -117,7 +120,7 @@ pub(crate) fn check_next<G: Graph, H: Guide, D: Desk>(
     match check_section(alloc, graph, guide, from, to, plan, labels.text, at) {
         Ok((outcome, next)) => match write_holds(alloc, plan, &outcome, desk) {
             Ok(()) => Ok(next),
-            Err(stop) => Err(Ending::plain(alloc, status_after(Err(stop), 9))),
+            Err(stop) => Err(Ending::plain(alloc, status_after(Err(stop), Status::NoMemory))),
         },
         Err(stop) => Err(tell_stop(alloc, to, plan, labels, &stop, desk)),
     }

@@ -7,7 +7,9 @@ mod section_check;
 mod text_check;
 
 pub use label_file::LabelFile;
-pub use sbpl_telling::{Ending, Lines, OUTPUT, end_with, status_after, write_last, write_text};
+pub use sbpl_telling::{
+    Ending, Lines, OUTPUT, Status, end_with, status_after, write_last, write_text,
+};
 pub use sbpl_worlds::{
     Asked, Board, Changes, CheckJob, Command, DemoJob, Desk, Entry, Gate, Graph, Input, Job,
     JobFault, JobStop, LabelForm, Lattice, ListOf, MemoryDesk, Message, Name, Nav, NavCheckJob,

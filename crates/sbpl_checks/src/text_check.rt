@@ -10,7 +10,7 @@ ghost use Rattle.sbpl_worlds.specs.sbpl_promises.Writing.{IsOutput, WritesOnly};
 
 use crate::check_next::{check_next, tell_fault};
 use crate::label_file::LabelFile;
-use sbpl_telling::{Ending, status_after, write_last};
+use sbpl_telling::{Ending, Status, status_after, write_last};
 use sbpl_worlds::{
     Desk, Heuristic, LabelFault, NoMemory, Updates, Workspace, next_token, place_in, write_batch,
     writes_lead_to_the_next_map,
@@ -25,7 +25,7 @@ fn end_sections<D: Desk>(alloc: Global, labels: &LabelFile, at: usize, desk: &mu
 {
     match next_token(labels.text, at) {
         Some(token) => tell_fault(alloc, labels, &LabelFault::Trailing(token.from), desk),
-        None => Ending::plain(alloc, status_after(write_last(desk), 0)),
+        None => Ending::plain(alloc, status_after(write_last(desk), Status::Done)),
     }
 }
 
@@ -112,7 +112,7 @@ fn check_sections<D: Desk, W: Workspace>(
         start = world.start_at(place_in(updates, k), start);
         let (_from, to) = W::way(start, goal);
         if let Err(NoMemory) = aim(alloc, world, guide, was, to) {
-            return Ending::plain(alloc, 9);
+            return Ending::plain(alloc, Status::NoMemory);
         }
     }
     let last = updates.batches.batches();
@@ -146,6 +146,6 @@ pub fn check_text<D: Desk, W: Workspace>(
         Ok(mut guide) => check_sections(
             alloc, world, &mut guide, updates, start, goal, labels, desk,
         ),
-        Err(NoMemory) => Ending::plain(alloc, 9),
+        Err(NoMemory) => Ending::plain(alloc, Status::NoMemory),
     }
 }

@@ -10,36 +10,30 @@ ghost use Rattle.sbpl_jobs.specs.sbpl_promises.RunPromises.{RunPromises};
 ghost use Rattle.sbpl_jobs.specs.sbpl_promises.Writing.{IsOutput, WritesOnly, output};
 ghost use Rattle.sbpl_jobs.specs.sbpl_job.Asked.{asked_for};
 ghost use Rattle.sbpl_jobs.specs.sbpl_plans.Boards.{IsSamePublisher, entries_of};
+ghost use Rattle.sbpl_jobs.specs.sbpl_report.Statuses.{number_of};
 ghost use Rattle.sbpl_jobs.specs.sbpl_telling.Endings.{message_of};
 
 use sbpl_headline::promises_show_the_headline;
-use sbpl_jobs::{Asked, Desk, Ending, Gate, LiveBoard, WriteStop, read_asked, run_words, told};
+use sbpl_jobs::{
+    Asked, Desk, Ending, Gate, LiveBoard, Status, read_asked, run_words, status_after, told,
+};
 use sbpl_laws::runs_keep_promises;
 use std::alloc::Global;
 use std::io;
 use std::sync::Wait;
 use std::thread::Threads;
 
-/// The status for a write that failed.
-const NOT_WRITTEN: u8 = 7;
-
-/// The status where memory ran out.
-pub const NO_MEMORY: u8 = 9;
-
 /// Writes the text that is asked for to the standard output, and answers the status.
-fn tell<D: Desk>(alloc: Global, asked: Asked, desk: &mut D) -> u8
-    ensures told { IsOrUnwritten 0 result }
-    ensures write { result ≡ 7 → Rose ((D.state desk.old).write_faults output) ((D.state desk.new).write_faults output) }
+fn tell<D: Desk>(alloc: Global, asked: Asked, desk: &mut D) -> Status
+    ensures told { IsOrUnwritten 0 (number_of result) }
+    ensures write { number_of result ≡ 7
+        → Rose ((D.state desk.old).write_faults output) ((D.state desk.new).write_faults output) }
     ensures frame { WritesOnly IsOutput (D.state desk.old) (D.state desk.new) }
 {
     let Ok(text) = told(alloc, asked) else {
-        return NO_MEMORY;
+        return Status::NoMemory;
     };
-    match desk.write("-", text.as_bytes()) {
-        Ok(()) => 0,
-        Err(WriteStop::Failed) => NOT_WRITTEN,
-        Err(WriteStop::NoMemory) => NO_MEMORY,
-    }
+    status_after(desk.write("-", text.as_bytes()), Status::Done)
 }
 
 /// Tells on `err` why a run that ended so did not do its job, if it did not.
@@ -88,11 +82,11 @@ pub fn answer<R: Threads + Wait + Sync, D: Desk, T: Gate + Sync, E: io::Write>(
     runs_keep_promises();
     promises_show_the_headline();
     match read_asked(words) {
-        Some(asked) => tell(alloc, asked, desk),
+        Some(asked) => tell(alloc, asked, desk).number(),
         None => {
             let ending = run_words(alloc, words, live, desk, gate);
             explain(&ending, err);
-            ending.status
+            ending.status.number()
         }
     }
 }

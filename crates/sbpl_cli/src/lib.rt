@@ -5,11 +5,11 @@
 mod answering;
 mod top;
 
-pub use answering::{NO_MEMORY, answer};
+pub use answering::answer;
 pub use sbpl_jobs::{
     Board, CheckJob, Command, DemoJob, Desk, Ending, Entry, Gate, Job, JobFault, ListOf, LiveBoard,
     MemoryDesk, Name, NavCheckJob, NavJob, NoGate, Outputs, PlanJob, Planner, Publisher, ReadStop,
-    Reader, RealDesk, SearchJob, Setting, Sources, WriteStop, cell_at, heading_at, print_env,
-    print_prims, read_env, read_job, read_prims,
+    Reader, RealDesk, SearchJob, Setting, Sources, Status, WriteStop, cell_at, heading_at,
+    print_env, print_prims, read_env, read_job, read_prims,
 };
 pub use top::{run, run_to_end, run_with};

@@ -8,10 +8,11 @@ ghost use Rattle.sbpl_jobs.specs.sbpl_promises.Published.{Entry};
 ghost use Rattle.sbpl_jobs.specs.sbpl_promises.Run.{job_named};
 ghost use Rattle.sbpl_jobs.specs.sbpl_promises.RunPromises.{RunPromises};
 ghost use Rattle.sbpl_jobs.specs.sbpl_promises.Writing.{WritesOnly};
+ghost use Rattle.sbpl_jobs.specs.sbpl_report.Statuses.{number_of};
 ghost use Rattle.sbpl_jobs.specs.sbpl_telling.Endings.{message_of};
 
 use sbpl_headline::promises_show_the_headline;
-use sbpl_jobs::{Board, Desk, Ending, Gate, LiveBoard, NoMemory, Publisher, run_words};
+use sbpl_jobs::{Board, Desk, Ending, Gate, LiveBoard, NoMemory, Publisher, Status, run_words};
 use sbpl_laws::runs_keep_promises;
 use std::alloc::Global;
 use std::sync::Wait;
@@ -31,9 +32,11 @@ pub fn run_to_end<R: Threads + Wait + Sync, D: Desk, T: Gate + Sync>(
     requires board { publisher.old.board ≡ board.now }
     requires few { length publisher.old.published < 2 ^ 62 }
     ensures promises { RunPromises (job_named words.now) (D.state desk.old) (D.state desk.new) publisher.old.published
-        publisher.new.published result.status }
-    ensures headline { IsHeadline (map string_bytes words.now) (D.state desk.old) (D.state desk.new) result.status }
-    ensures told { IsTold (job_named words.now) (D.state desk.old) (D.state desk.new) result.status (message_of result) }
+        publisher.new.published (number_of result.status) }
+    ensures headline { IsHeadline (map string_bytes words.now) (D.state desk.old) (D.state desk.new)
+        (number_of result.status) }
+    ensures told { IsTold (job_named words.now) (D.state desk.old) (D.state desk.new) (number_of result.status)
+        (message_of result) }
     ensures board { publisher.new.board ≡ publisher.old.board }
     ensures frame { WritesOnly (MayBeWritten (job_named words.now)) (D.state desk.old) (D.state desk.new) }
 {
@@ -72,7 +75,9 @@ pub fn run_with<R: Threads + Wait + Sync, D: Desk, T: Gate + Sync>(
     // Nothing that is held changes, nothing is written under names other than the job's, and no count falls.
     ensures frame { WritesOnly (MayBeWritten (job_named words.now)) (D.state desk.old) (D.state desk.new) }
 {
-    run_to_end(rt, alloc, words, desk, gate, board, publisher).status
+    run_to_end(rt, alloc, words, desk, gate, board, publisher)
+        .status
+        .number()
 }
 
 /// Does what `run_with` does, with a board of its own that nobody reads.
@@ -103,6 +108,6 @@ pub fn run<R: Threads + Wait + Sync, D: Desk, T: Gate + Sync>(
             &board,
             &mut publisher,
         ),
-        Err(NoMemory) => 9,
+        Err(NoMemory) => Status::NoMemory.number(),
     }
 }

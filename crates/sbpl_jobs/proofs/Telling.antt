@@ -18,6 +18,7 @@ use Rattle.sbpl_checks.specs.sbpl_promises.declared.section_stop.SectionStop.The
 use Rattle.sbpl_checks.specs.sbpl_cert.Faults.{place_of}
 use Rattle.sbpl_checks.specs.sbpl_cert.declared.outcome.Outcome.{Outcome}
 use Rattle.sbpl_checks.specs.sbpl_report.Refusals.{input_name, refusal_status}
+use Rattle.sbpl_checks.specs.sbpl_report.Statuses.{number_of}
 use Rattle.sbpl_checks.specs.sbpl_report.declared.refusal.Refusal.{Refusal}
 use Rattle.sbpl_checks.specs.sbpl_report.declared.refusal.Refusal.TheVariants as refusal
 use Rattle.sbpl_checks.specs.sbpl_report.declared.refusal.JobStop.{JobStop}
@@ -31,12 +32,13 @@ use Rattle.sbpl_jobs.specs.Endings.{IsJobEnding, IsRunEnding}
 use Rattle.sbpl_jobs.proofs.Ends.{failed_later, refused}
 
 -- the message, where the status is known
-pub message_at : (e : Ending) (n : ℕ) → e.status ≡ n → message_of e ≡ (if n == 7 then unwritten_text else e.why)
+pub message_at : (e : Ending) (n : ℕ) → number_of e.status ≡ n
+    → message_of e ≡ (if n == 7 then unwritten_text else e.why)
 message_at e n is = ap (λ (k : ℕ). if k == 7 then unwritten_text else e.why) is
 
 -- a job that is not refused, without a fault in labels
-pub plain_told : (s u : DeskState) (j : Job) (e : Ending) → e.why ≡ [] → IsOrUnwritten 0 e.status
-    → IsToldOf s u j e.status (message_of e)
+pub plain_told : (s u : DeskState) (j : Job) (e : Ending) → e.why ≡ [] → IsOrUnwritten 0 (number_of e.status)
+    → IsToldOf s u j (number_of e.status) (message_of e)
 plain_told s u j e none (inl is) = nothing (inl is) (message_at e 0 is ∙ none)
 plain_told s u j e none (inr (inl is)) = of_write is (message_at e 7 is)
 plain_told s u j e none (inr (inr is)) = nothing (inr (inr is)) (message_at e 9 is ∙ none)
@@ -50,8 +52,9 @@ plans_end all status (inr (inl (is, at))) = inr (inl is)
 plans_end all status (inr (inr (is, at))) = inr (inr is)
 
 -- so such a job ends, of which no more is told than its status says
-pub plain_ending : (s u : DeskState) (old new : List Entry) (j : Job) (status : ℕ) (e : Ending) → e.status ≡ status
-    → e.why ≡ [] → IsOrUnwritten 0 status → EndsJob s u old new j status → IsJobEnding s u old new j e
+pub plain_ending : (s u : DeskState) (old new : List Entry) (j : Job) (status : ℕ) (e : Ending)
+    → number_of e.status ≡ status → e.why ≡ [] → IsOrUnwritten 0 status → EndsJob s u old new j status
+    → IsJobEnding s u old new j e
 plain_ending s u old new j status e is none fine ends = record {
   ends = subst (λ (n : ℕ). EndsJob s u old new j n) (sym is) ends;
   told = plain_told s u j e none (subst (λ (n : ℕ). IsOrUnwritten 0 n) (sym is) fine);
@@ -67,12 +70,12 @@ ending_of (Err x) s u log j k is so = tt
 pub check_told : {W : Type 0} (s u : DeskState) (f : WorldFiles W) (changes : Option (List ℕ)) (labels : List ℕ) (j : Job)
     (file : LabelFile) (goals : ℕ → ℕ) (os : List Outcome) (end : Option SectionStop) (e : Ending)
     (checked : IsChecked s.held f changes labels goals os end) → file.name.now ≡ labels
-    → file.text.now ≡ checked.text → EndsAs s u (checked_writes goals 0 os end) (checked_status end) e.status
+    → file.text.now ≡ checked.text → EndsAs s u (checked_writes goals 0 os end) (checked_status end) (number_of e.status)
     → IsStopTold file end e
     → (IsFaultExplained s u f changes labels (message_of e) → IsLabelFaultExplained s u j (message_of e))
-    → IsToldOf s u j e.status (message_of e)
+    → IsToldOf s u j (number_of e.status) (message_of e)
 check_told s u f changes labels j file goals os None e checked name text ends told of =
-    plain_told s u j e told (plans_end true e.status ends)
+    plain_told s u j e told (plans_end true (number_of e.status) ends)
 check_told s u f changes labels j file goals os (Some (section.Flaw x)) e checked name text (inl (is, made)) told of =
     nothing (inr (inl is)) (message_at e 1 is ∙ told)
 check_told s u f changes labels j file goals os (Some (section.Flaw x)) e checked name text (inr (inl (is, at))) told of =
@@ -100,7 +103,7 @@ check_told s u f changes labels j file goals os (Some section.NoMemory) e checke
     nothing (inr (inr is)) (message_at e 9 is ∙ told)
 
 -- no refusal has the status of a failed write
-refusal_message : (r : Refusal) (e : Ending) → e.status ≡ refusal_status r → message_of e ≡ e.why
+refusal_message : (r : Refusal) (e : Ending) → number_of e.status ≡ refusal_status r → message_of e ≡ e.why
 refusal_message (refusal.Environment f) e is = message_at e 3 is
 refusal_message (refusal.Grid f) e is = message_at e 3 is
 refusal_message (refusal.Primitives f) e is = message_at e 4 is
@@ -116,11 +119,12 @@ pub refused_so : CausesStand → (s t u : DeskState) (old new : List Entry) (j :
     → ReadsOnly s t → EndsTelling t u (refusal_writes j r) (refusal_status r) why e → WritesOnly IsOutput t u
     → IsJobEnding s u old new j e
 refused_so stand s t u old new j r why e stays cause explains same ends frame = record {
-  ends = refused stand s t u old new j r e.status stays cause same (ends_as ends) frame;
+  ends = refused stand s t u old new j r (number_of e.status) stays cause same (ends_as ends) frame;
   told = told ends;
 }
   where
-    told : EndsTelling t u (refusal_writes j r) (refusal_status r) why e → IsToldOf s u j e.status (message_of e)
+    told : EndsTelling t u (refusal_writes j r) (refusal_status r) why e
+        → IsToldOf s u j (number_of e.status) (message_of e)
     told (as_wanted is made says) =
         let later : IsFailedOn (ReadFailed s t) (ReadFailed s u) r =
         λ six. failed_later s t u same.reads frame.reads in
@@ -139,7 +143,7 @@ pub words_so : (named : Option Job) (s u : DeskState) (old : List Entry) (why : 
     → IsPlainMessage program why → EndsTelling s u words_writes 2 why e → IsRunEnding named s u old old e
 words_so named s u old why e none plain ends = record { ends = by_words none (ends_as ends) refl; told = told ends }
   where
-    told : EndsTelling s u words_writes 2 why e → IsTold named s u e.status (message_of e)
+    told : EndsTelling s u words_writes 2 why e → IsTold named s u (number_of e.status) (message_of e)
     told (as_wanted is made says) =
         of_words none is (subst (λ (m : List ℕ). IsPlainMessage program m) (sym (message_at e 2 is ∙ says)) plain)
     told (cut is at nothing_told) = unwritten is (message_at e 7 is)

@@ -9,6 +9,7 @@ ghost use Rattle.sbpl_checks.specs.sbpl_job.declared.job.Job.TheVariants as Jobs
 ghost use Rattle.sbpl_checks.specs.sbpl_promises.Causes.{AreUpdatesIn, IsDrawn, demo_search};
 ghost use Rattle.sbpl_checks.specs.sbpl_promises.LatticeSite.{lattice_site};
 ghost use Rattle.sbpl_checks.specs.sbpl_report.Report.{demo_text};
+ghost use Rattle.sbpl_checks.specs.sbpl_report.Statuses.{number_of};
 ghost use Rattle.sbpl_checks.specs.sbpl_promises.Texts.{still};
 ghost use Rattle.sbpl_checks.specs.sbpl_promises.Writing.{EndsIn, IsOutput, WritesOnly, to_output};
 ghost use Rattle.sbpl_checks.specs.sbpl_promises.Promises.{EndsJob, IsOrUnwritten};
@@ -17,8 +18,8 @@ ghost use Rattle.sbpl_jobs.specs.Endings.{IsJobEnding};
 
 use sbpl_checks::{
     Changes, DemoJob, Desk, Ending, Gate, Graph, LabelForm, Lattice, Lines, NoMemory, OUTPUT,
-    Outputs, Planner, SearchJob, Updates, Workspace, WriteStop, demo_line, draw, status_after,
-    write_text,
+    Outputs, Planner, SearchJob, Status, Updates, Workspace, WriteStop, demo_line, draw,
+    status_after, write_text,
 };
 use sbpl_plans::{LiveBoard, Task, make_plans};
 use std::alloc::Global;
@@ -71,21 +72,21 @@ fn demonstrate<R: Threads + Wait + Sync, D: Desk, T: Gate + Sync>(
     live: &mut LiveBoard<R>,
     desk: &mut D,
     gate: &T,
-) -> u8
+) -> Status
     requires drawn { IsDrawn job.now lattice }
     requires updates { updates.now ≡ still (changes_drawn job.now.width job.now.height job.now.seed) }
     requires kept { IsWorld lattice }
     requires in_world { AreUpdatesIn lattice_site false lattice updates.now }
     requires few { length (entries_of live.old) < 2 ^ 62 }
     ensures ends { EndsJob (D.state desk.old) (D.state desk.new) (entries_of live.old) (entries_of live.new)
-        (Jobs.Demo job.now) result }
-    ensures status { IsOrUnwritten 0 result }
+        (Jobs.Demo job.now) (number_of result) }
+    ensures status { IsOrUnwritten 0 (number_of result) }
     ensures same { IsSamePublisher live.old live.new }
     ensures frame { WritesOnly IsOutput (D.state desk.old) (D.state desk.new) }
 {
     let (start, goal) = lattice.ends();
     if let Err(stop) = write_first(alloc, &lattice, &updates.batches, desk) {
-        return status_after(Err(stop), 9);
+        return status_after(Err(stop), Status::NoMemory);
     }
     let outputs = Outputs {
         labels: None,
@@ -130,6 +131,6 @@ pub(crate) fn run_demo<R: Threads + Wait + Sync, D: Desk, T: Gate + Sync>(
             drop(updates);
             Ending::plain(alloc, status)
         }
-        Err(NoMemory) => Ending::plain(alloc, 9),
+        Err(NoMemory) => Ending::plain(alloc, Status::NoMemory),
     }
 }

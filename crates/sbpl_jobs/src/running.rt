@@ -16,8 +16,8 @@ use crate::nav_job::{run_nav, run_navcheck};
 use crate::plan_job::run_plan;
 use crate::sweep_job::run_sweep;
 use sbpl_checks::{
-    Desk, Ending, Gate, Job, JobFault, JobStop, Message, NoMemory, Refusal, causes_stand, end_with,
-    read_job, refusal_line,
+    Desk, Ending, Gate, Job, JobFault, JobStop, Message, NoMemory, Refusal, Status, causes_stand,
+    end_with, read_job, refusal_line,
 };
 use sbpl_message::words_message;
 use sbpl_plans::LiveBoard;
@@ -33,7 +33,7 @@ fn refuse<D: Desk>(alloc: Global, job: &Job, refusal: Refusal, why: Message, des
 {
     match refusal_line(alloc, job, &refusal) {
         Ok(line) => end_with(alloc, line.as_slice(), refusal.status(), why, desk),
-        Err(NoMemory) => Ending::plain(alloc, 9),
+        Err(NoMemory) => Ending::plain(alloc, Status::NoMemory),
     }
 }
 
@@ -72,8 +72,8 @@ fn refuse_words<D: Desk>(alloc: Global, words: &[String], desk: &mut D) -> Endin
     ensures frame { WritesOnly IsOutput (D.state desk.old) (D.state desk.new) }
 {
     match words_message(alloc, words) {
-        Ok(why) => end_with(alloc, b"refused words\n", 2, why, desk),
-        Err(NoMemory) => Ending::plain(alloc, 9),
+        Ok(why) => end_with(alloc, b"refused words\n", Status::WordsRefused, why, desk),
+        Err(NoMemory) => Ending::plain(alloc, Status::NoMemory),
     }
 }
 
@@ -97,7 +97,7 @@ pub fn run_words<R: Threads + Wait + Sync, D: Desk, T: Gate + Sync>(
     let job = match read_job(alloc, words) {
         Ok(job) => job,
         Err(JobFault::Words) => return refuse_words(alloc, words, desk),
-        Err(JobFault::NoMemory) => return Ending::plain(alloc, 9),
+        Err(JobFault::NoMemory) => return Ending::plain(alloc, Status::NoMemory),
     };
     // The job is let go by a call: the drop of each field here would make the proof long.
     match run_job(alloc, &job, live, desk, gate) {
@@ -112,7 +112,7 @@ pub fn run_words<R: Threads + Wait + Sync, D: Desk, T: Gate + Sync>(
         }
         Err(JobStop::NoMemory) => {
             drop(job);
-            Ending::plain(alloc, 9)
+            Ending::plain(alloc, Status::NoMemory)
         }
     }
 }

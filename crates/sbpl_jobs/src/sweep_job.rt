@@ -10,8 +10,8 @@ ghost use Rattle.sbpl_checks.specs.sbpl_job.declared.job.Job.TheVariants as Jobs
 ghost use Rattle.sbpl_jobs.specs.Endings.{IsJobEnding, IsJobStop};
 
 use sbpl_checks::{
-    Desk, Ending, JobStop, Lattice, NoMemory, OUTPUT, Sources, WriteStop, listing_at, read_lattice,
-    status_after, write_last, write_text,
+    Desk, Ending, JobStop, Lattice, NoMemory, OUTPUT, Sources, Status, WriteStop, listing_at,
+    read_lattice, status_after, write_last, write_text,
 };
 use std::alloc::Global;
 
@@ -65,7 +65,7 @@ pub(crate) fn run_sweep<D: Desk>(
 {
     match read_lattice(alloc, from, desk) {
         Ok(lattice) => {
-            let status = status_after(write_listings(alloc, &lattice, desk), 0);
+            let status = status_after(write_listings(alloc, &lattice, desk), Status::Done);
             // Let go by a call: the drop of each field here would make the proof long.
             drop(lattice);
             Ok(Ending::plain(alloc, status))

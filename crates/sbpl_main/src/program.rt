@@ -4,7 +4,7 @@ ghost use Rattle.std.specs.Prelude.{◌≡◌, drop};
 ghost use Rattle.sbpl_cli.specs.sbpl_promises.Promises.{IsStatus};
 
 use crate::progress::answer_at_terminal;
-use sbpl_cli::{Board, LiveBoard, NO_MEMORY, NoGate, RealDesk, answer};
+use sbpl_cli::{Board, LiveBoard, NoGate, RealDesk, Status, answer};
 use std::io::IsTerminal;
 use std::rt::{Env, Files};
 use std::sync::Wait;
@@ -38,13 +38,14 @@ pub fn start<
 {
     let words = match words_of(rt) {
         Ok(words) => words,
-        Err(error) if error.kind() == io::ErrorKind::OutOfMemory => return NO_MEMORY,
+        Err(error) if error.kind() == io::ErrorKind::OutOfMemory =>
+            return Status::NoMemory.number(),
         // A word that isn't text names no job, like no word at all.
         Err(_) => Vec::new(rt.alloc()),
     };
     let words = after_name(words.as_slice());
     let Ok((board, mut publisher)) = Board::new(rt.alloc()) else {
-        return NO_MEMORY;
+        return Status::NoMemory.number();
     };
     if err.is_terminal() {
         return answer_at_terminal(rt, words, err, &board, &mut publisher);

@@ -4,7 +4,7 @@ ghost use Rattle.std.specs.Prelude.{◌≡◌, ◌<◌, ◌^◌, length};
 ghost use Rattle.sbpl_cli.specs.sbpl_promises.Promises.{IsStatus};
 
 use sbpl_cli::{
-    Board, Desk, Entry, LiveBoard, NO_MEMORY, NoGate, Publisher, ReadStop, Reader, RealDesk,
+    Board, Desk, Entry, LiveBoard, NoGate, Publisher, ReadStop, Reader, RealDesk, Status,
     WriteStop, answer,
 };
 use std::alloc::{AllocError, Global};
@@ -151,7 +151,7 @@ fn answer_beside<R: Threads + Wait + Clock + Sync, D: Desk, E: io::Write + Send>
     ensures status { IsStatus result }
 {
     let Ok(mut reader) = board.reader(publisher) else {
-        return NO_MEMORY;
+        return Status::NoMemory.number();
     };
     let mut message = Vec::new(alloc);
     let mut looks = ||

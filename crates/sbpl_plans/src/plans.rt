@@ -9,11 +9,12 @@ ghost use Rattle.sbpl_plans.specs.Boards.{IsSamePublisher, entries_of};
 ghost use Rattle.sbpl_plans.specs.Tasks.{CanBeMade, CanPlan, EndsTask};
 ghost use Rattle.sbpl_worlds.specs.sbpl_plan.Asked.{MOST_PASSES};
 ghost use Rattle.sbpl_worlds.specs.sbpl_promises.Writing.{WritesOnly};
+ghost use Rattle.sbpl_worlds.specs.sbpl_report.Statuses.{number_of};
 
 use crate::live_board::LiveBoard;
 use crate::plan_record::make_record;
 use crate::task::{PlanStart, Task};
-use sbpl_telling::{Telling, status_after, write_last};
+use sbpl_telling::{Status, Telling, status_after, write_last};
 use sbpl_worlds::{
     Desk, NoMemory, Search, Session, Traced, Workspace, WriteStop, place_in,
     writes_lead_to_the_next_map,
@@ -89,7 +90,7 @@ pub(crate) fn go_through<
     live: &mut LiveBoard<B>,
     telling: &T,
     desk: &mut D,
-) -> u8
+) -> Status
 where
     S::Action: Traced,
     requires task { CanBeMade W.Workspace world task.now }
@@ -97,7 +98,7 @@ where
     requires new { IsNewSearch S.meaning W.Workspace world task.now.start task.now.goal (S.state search) }
     requires serves { S.serves search }
     ensures ends { EndsTask (planner_on W.Workspace S.meaning S.Action.line) (T.written telling.now) world task.now
-        (entries_of live.old) (entries_of live.new) (D.state desk.old) (D.state desk.new) result }
+        (entries_of live.old) (entries_of live.new) (D.state desk.old) (D.state desk.new) (number_of result) }
     ensures same { IsSamePublisher live.old live.new }
     ensures frame { WritesOnly (T.under telling.now) (D.state desk.old) (D.state desk.new) }
 {
@@ -105,22 +106,22 @@ where
     writes_lead_to_the_next_map();
     let mut session = match open_session(alloc, world, search, task) {
         Ok(session) => session,
-        Err(NoMemory) => return 9,
+        Err(NoMemory) => return Status::NoMemory,
     };
     let updates = task.updates;
     let mut start = task.start;
     for k in 0..updates.batches.batches() {
         let at = PlanStart { plan: k, start };
         if let Err(stop) = make_plan(alloc, &mut session, task, at, live, telling, desk) {
-            return status_after(Err(stop), 9);
+            return status_after(Err(stop), Status::NoMemory);
         }
         if let Err(NoMemory) = session.change(alloc, updates.batches.batch(k)) {
-            return 9;
+            return Status::NoMemory;
         }
         start = session.world().start_at(place_in(updates, k), start);
         let (_from, to) = W::way(start, task.goal);
         if let Err(NoMemory) = session.aim(alloc, to) {
-            return 9;
+            return Status::NoMemory;
         }
     }
     let last = PlanStart {
@@ -128,7 +129,7 @@ where
         start,
     };
     match make_plan(alloc, &mut session, task, last, live, telling, desk) {
-        Ok(()) => status_after(write_last(desk), 0),
-        Err(stop) => status_after(Err(stop), 9),
+        Ok(()) => status_after(write_last(desk), Status::Done),
+        Err(stop) => status_after(Err(stop), Status::NoMemory),
     }
 }

@@ -105,7 +105,7 @@ pub use sbpl_report::{
 
 // Of `sbpl_report`.
 pub use sbpl_report::{
-    Ended, Input, JobStop, PathRecord, PathStep, PlanRecord, Raised, Refusal, ReportPose, Steps,
-    TraceLine, Traced, demo_line, fault_line, flaw_line, holds_line, incumbent_line, labels_of,
-    labels_text, listing_at, plan_line, refusal_line, trace_of, traced_passes,
+    Ended, Input, JobStop, PathRecord, PathStep, PlanRecord, Raised, Refusal, ReportPose, Status,
+    Steps, TraceLine, Traced, demo_line, fault_line, flaw_line, holds_line, incumbent_line,
+    labels_of, labels_text, listing_at, plan_line, refusal_line, trace_of, traced_passes,
 };

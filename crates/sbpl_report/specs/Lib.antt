@@ -3,6 +3,7 @@ pub mod Traces
 pub mod Verdicts
 pub mod Listing
 pub mod Refusals
+pub mod Statuses
 pub mod Shown
 pub use Rattle.sbpl_plan.specs.sbpl_graph as sbpl_graph
 pub use Rattle.sbpl_job.specs.sbpl_fixed as sbpl_fixed

@@ -9,6 +9,7 @@ mod record;
 mod refusal;
 mod refusal_lines;
 mod report;
+mod status;
 mod sweep_lines;
 mod trace;
 
@@ -19,6 +20,7 @@ pub use record::{PathRecord, PathStep, PlanRecord, Raised, ReportPose, Steps, Tr
 pub use refusal::{Input, JobStop, Refusal};
 pub use refusal_lines::{fault_line, refusal_line};
 pub use report::{demo_line, incumbent_line, plan_line};
+pub use status::Status;
 pub use sweep_lines::listing_at;
 pub use trace::{Traced, trace_of, traced_passes};
 

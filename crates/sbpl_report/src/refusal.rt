@@ -2,8 +2,10 @@
 
 ghost use Rattle.std.specs.Prelude.{◌≡◌};
 ghost use Rattle.sbpl_report.specs.Refusals.{refusal_status};
+ghost use Rattle.sbpl_report.specs.Statuses.{number_of};
 ghost use Rattle.sbpl_report.specs.declared.refusal.JobStop.TheVariants.{NoMemory as Memory};
 
+use crate::status::Status;
 use sbpl_cost::{ChangeFault, EnvFault, Message, PrimFault};
 use sbpl_job::NoMemory;
 
@@ -39,15 +41,17 @@ pub enum Refusal {
 
 impl Refusal {
     /// The program's status after this refusal.
-    pub fn status(&self) -> u8
-        ensures status { result ≡ refusal_status self.now }
+    pub fn status(&self) -> Status
+        ensures status { number_of result ≡ refusal_status self.now }
     {
         match self {
-            Refusal::Environment(_) | Refusal::Grid(_) => 3,
-            Refusal::Primitives(_) | Refusal::TooWide(_) | Refusal::TooDear(_) => 4,
-            Refusal::Changes(_) => 5,
-            Refusal::Read(_) => 6,
-            Refusal::Length(_) => 8,
+            Refusal::Environment(_) | Refusal::Grid(_) => Status::EnvironmentRefused,
+            Refusal::Primitives(_) | Refusal::TooWide(_) | Refusal::TooDear(_) => {
+                Status::PrimitivesRefused
+            }
+            Refusal::Changes(_) => Status::ChangesRefused,
+            Refusal::Read(_) => Status::NotRead,
+            Refusal::Length(_) => Status::TooLong,
         }
     }
 }

@@ -1,6 +1,6 @@
 -- How the making of writes ends, by its parts.
 use Rattle.std.proofs.Common.{◌≡◌, ◌≤◌, ℕ, List, [], ◌∷◌, ◌++◌, Bool, true, false, if◌then◌else◌, Option, Some, None}
-use Rattle.std.proofs.Common.{Result, Ok, Err, refl, sym, ◌∙◌, ap, subst, append_assoc, append-nil, arith, inl, inr}
+use Rattle.std.proofs.Common.{IsErrOf, OnOk, Result, Ok, Err, refl, sym, ◌∙◌, ap, subst, append_assoc, append-nil, arith, inl, inr}
 use Rattle.std.proofs.lemmas.Slice.Eq.{bytes_eq-Decides}
 use Rattle.std.specs.Bool.{Decides}
 use Rattle.std.specs.Str.{bytes_eq}
@@ -100,6 +100,16 @@ none_kept a b name kept stay =
 pub one_stopped : (a b : DeskState) (w : Write) → Keeps (a.written w.name) (b.written w.name)
     → (StaysBut (λ other. other ≡ w.name) a.written b.written) → RunsOutAt a b (w ∷ [])
 one_stopped a b w kept stay = record { first = []; rest = w ∷ []; whole = refl; made = none_kept a b w.name kept stay }
+
+-- how one write ends, from what a desk says of it
+pub one_ends : (a b : DeskState) (w : Write) (r : Result (Unit {0}) WriteStop)
+    → OnOk r (Appends (a.written w.name) (b.written w.name) w.text)
+    → (IsErrOf r Failed → AppendsPrefix (a.written w.name) (b.written w.name) w.text)
+    → (IsErrOf r Failed → WriteFailed a b w.name) → (IsErrOf r NoMemory → Keeps (a.written w.name) (b.written w.name))
+    → (StaysBut (λ other. other ≡ w.name) a.written b.written) → EndsIn {T = Unit {0}} a b (w ∷ []) r
+one_ends a b w (Ok x) grows prefix rose kept stay = one_made a b w.name w.text grows stay
+one_ends a b w (Err Failed) grows prefix rose kept stay = one_cut a b w.name w.text (prefix refl) stay (rose refl)
+one_ends a b w (Err NoMemory) grows prefix rose kept stay = one_stopped a b w (kept refl) stay
 
 -- the writes end within the first of them
 pub cut_first : (a b : DeskState) (ws vs : List Write) → IsCutAt a b ws → IsCutAt a b (ws ++ vs)

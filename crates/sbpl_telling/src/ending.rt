@@ -2,10 +2,11 @@
 
 ghost use Rattle.std.specs.Prelude.{◌≡◌, ◌∷◌, []};
 ghost use Rattle.sbpl_promises.specs.Writing.{IsOutput, WritesOnly, to_output};
+ghost use Rattle.sbpl_promises.specs.sbpl_report.Statuses.{number_of};
 ghost use Rattle.sbpl_telling.specs.Endings.{EndsTelling, message_of};
 
 use crate::writing::{OUTPUT, status_after, write_text};
-use sbpl_promises::{Desk, ListOf, Message};
+use sbpl_promises::{Desk, ListOf, Message, Status};
 use std::alloc::Global;
 
 /// What people are told where a write failed.
@@ -16,14 +17,14 @@ const UNWRITTEN: &[u8] =
 #[derive(Drop)]
 pub struct Ending {
     /// The status.
-    pub status: u8,
+    pub status: Status,
     /// Why the job was not done, in a line; empty where the status says it all.
     pub why: Message,
 }
 
 impl Ending {
     /// An ending of which no more is told than its status says.
-    pub fn plain(alloc: Global, status: u8) -> Ending
+    pub fn plain(alloc: Global, status: Status) -> Ending
         ensures status { result.status ≡ status }
         ensures untold { result.why ≡ [] }
     {
@@ -37,10 +38,9 @@ impl Ending {
     pub fn message(&self) -> &[u8]
         ensures message { result.now ≡ message_of self.now }
     {
-        if self.status == 7 {
-            UNWRITTEN
-        } else {
-            self.why.as_slice()
+        match self.status {
+            Status::NotWritten => UNWRITTEN,
+            _ => self.why.as_slice(),
         }
     }
 }
@@ -50,11 +50,11 @@ impl Ending {
 pub fn end_with<D: Desk>(
     alloc: Global,
     line: &[u8],
-    status: u8,
+    status: Status,
     why: Message,
     desk: &mut D,
 ) -> Ending
-    ensures ends { EndsTelling (D.state desk.old) (D.state desk.new) (to_output line.now ∷ []) status why result }
+    ensures ends { EndsTelling (D.state desk.old) (D.state desk.new) (to_output line.now ∷ []) (number_of status) why result }
     ensures frame { WritesOnly IsOutput (D.state desk.old) (D.state desk.new) }
 {
     match write_text(OUTPUT, line, desk) {

@@ -9,5 +9,6 @@ mod writing;
 
 pub use ending::{Ending, end_with};
 pub use plan_section::section_of;
+pub use sbpl_promises::Status;
 pub use telling::{Lines, Telling};
 pub use writing::{OUTPUT, status_after, write_last, write_text};

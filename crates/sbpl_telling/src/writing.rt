@@ -3,8 +3,9 @@
 ghost use Rattle.std.specs.Prelude.{◌≡◌, ◌∷◌, []};
 ghost use Rattle.sbpl_promises.specs.Writing.{EndsIn, IsOutput, WritesOnly, status_after};
 ghost use Rattle.sbpl_promises.specs.Intents.{last_write};
+ghost use Rattle.sbpl_promises.specs.sbpl_report.Statuses.{number_of};
 
-use sbpl_promises::{Desk, WriteStop};
+use sbpl_promises::{Desk, Status, WriteStop};
 
 /// The name of the standard output.
 pub const OUTPUT: &str = "-";
@@ -14,21 +15,17 @@ pub fn write_text<D: Desk>(name: &str, text: &[u8], desk: &mut D) -> Result<(), 
     ensures ends { EndsIn (D.state desk.old) (D.state desk.new) (record { name = name.now; text = text.now } ∷ []) result }
     ensures frame { WritesOnly (λ other. other ≡ name.now) (D.state desk.old) (D.state desk.new) }
 {
-    match desk.write(name, text) {
-        Ok(()) => Ok(()),
-        Err(WriteStop::Failed) => Err(WriteStop::Failed),
-        Err(WriteStop::NoMemory) => Err(WriteStop::NoMemory),
-    }
+    desk.write(name, text)
 }
 
 /// The status after writing, where another one is wanted.
-pub fn status_after(end: Result<(), WriteStop>, wanted: u8) -> u8
-    ensures status { result ≡ status_after wanted end }
+pub fn status_after(end: Result<(), WriteStop>, wanted: Status) -> Status
+    ensures status { number_of result ≡ status_after (number_of wanted) end }
 {
     match end {
         Ok(()) => wanted,
-        Err(WriteStop::Failed) => 7,
-        Err(WriteStop::NoMemory) => 9,
+        Err(WriteStop::Failed) => Status::NotWritten,
+        Err(WriteStop::NoMemory) => Status::NoMemory,
     }
 }
 

@@ -1,6 +1,6 @@
 //! The program, run on the words of a line.
 
-use sbpl_cli::{Board, Desk, LiveBoard, NO_MEMORY, NoGate, RealDesk, answer};
+use sbpl_cli::{Board, Desk, LiveBoard, NoGate, RealDesk, Status, answer};
 use std::alloc::AllocError;
 use std::io;
 use std::rt::Files;
@@ -26,10 +26,10 @@ pub(crate) fn answer_at<R: AllocGlobal + Threads + Wait + Sync, D: Desk>(
     error: &mut Vec<u8>,
 ) -> u8 {
     let Ok(words) = words_of(rt, line) else {
-        return NO_MEMORY;
+        return Status::NoMemory.number();
     };
     let Ok((board, mut publisher)) = Board::new(rt.alloc()) else {
-        return NO_MEMORY;
+        return Status::NoMemory.number();
     };
     let mut live = LiveBoard::new(rt, &board, &mut publisher);
     answer(

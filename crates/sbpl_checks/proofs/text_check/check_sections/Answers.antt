@@ -6,6 +6,7 @@ use Rattle.sbpl_worlds.specs.sbpl_map.ChangeText.{IsPlaceOnMap}
 use Rattle.sbpl_worlds.specs.sbpl_map.MapAfter.{IsMapAfter}
 use Rattle.sbpl_checks.specs.Checking.{EndsSections, IsPlanIn}
 use Rattle.sbpl_worlds.specs.sbpl_promises.Sites.{Site, WordPlacesAlike, to_of}
+use Rattle.sbpl_worlds.specs.sbpl_report.Statuses.{number_of}
 use Rattle.sbpl_telling.proofs.Frames.{writes_on}
 use Rattle.sbpl_worlds.proofs.Moving.{alike_over, move_on_map, next_is, within}
 use Rattle.sbpl_worlds.proofs.OnMaps.{batch_on_map, same_told_states}
@@ -139,7 +140,8 @@ returns-in-Err-aim-clause-ends g c =
     so.leads left whole _ c.plain.result
     (goes_on case c.args.labels.now c.plain.result k left (c.in-Ok.ensures.holds case (plan_in so))
     c.check_plan.ensures.frame.writes
-    (runs_out case (k + 1) left _ c.args.labels.now _ c.plain.result c.plain.ensures.status c.plain.ensures.untold))
+    (runs_out case (k + 1) left _ c.args.labels.now _ c.plain.result (ap number_of c.plain.ensures.status)
+    c.plain.ensures.untold))
 
 pub loop-k-preserved : goal.loop-k-preserved
 loop-k-preserved g c =

@@ -60,10 +60,10 @@ quiet_by {status = status} (unwritten is told) quiet = absurd (not_quiet 7 statu
 quiet_by (out_of_memory is none) quiet = none
 
 pub returns-in-Some-clause-asked : goal.returns-in-Some-clause-asked
-returns-in-Some-clause-asked g c = λ _. c.tell.ensures.told
+returns-in-Some-clause-asked g c = λ _. rw c.number.ensures.number c.tell.ensures.told
 
 pub returns-in-Some-clause-unwritten : goal.returns-in-Some-clause-unwritten
-returns-in-Some-clause-unwritten g c = λ _. c.tell.ensures.write
+returns-in-Some-clause-unwritten g c = λ _. rw c.number.ensures.number c.tell.ensures.write
 
 pub returns-in-Some-clause-run : goal.returns-in-Some-clause-run
 returns-in-Some-clause-run g c = λ none. absurd (not_asked _ _ c.in-Some.is (c.read_asked.ensures.asked ∙ none))
@@ -73,7 +73,7 @@ returns-in-Some-clause-headline g c =
     λ none. absurd (not_asked _ _ c.in-Some.is (c.read_asked.ensures.asked ∙ none))
 
 pub returns-in-Some-clause-statuses : goal.returns-in-Some-clause-statuses
-returns-in-Some-clause-statuses g c = told_status c.tell.result c.tell.ensures.told
+returns-in-Some-clause-statuses g c = rw c.number.ensures.number (told_status _ c.tell.ensures.told)
 
 pub returns-in-Some-clause-same : goal.returns-in-Some-clause-same
 returns-in-Some-clause-same g c = (refl, refl)
@@ -95,21 +95,21 @@ returns-in-None-clause-unwritten g c =
     λ some. absurd (none_asked _ (sym c.read_asked.ensures.asked ∙ c.in-None.is) some)
 
 pub returns-in-None-clause-run : goal.returns-in-None-clause-run
-returns-in-None-clause-run g c = λ _.
-    c.runs_keep_promises.ensures.law (job_named c.args.words.now) (g.D.Desk.state c.args.desk.now) _ _ _ _
-    c.run_words-ending.ensures.ends.ends
-
-pub returns-in-None-clause-headline : goal.returns-in-None-clause-headline
-returns-in-None-clause-headline g c = λ _.
-    c.promises_show_the_headline.ensures.law (map string_bytes c.args.words.now) (g.D.Desk.state c.args.desk.now) _ _ _
-    _
+returns-in-None-clause-run g c = λ _. rw c.number-in-None.ensures.number
     (c.runs_keep_promises.ensures.law (job_named c.args.words.now) (g.D.Desk.state c.args.desk.now) _ _ _ _
     c.run_words-ending.ensures.ends.ends)
 
+pub returns-in-None-clause-headline : goal.returns-in-None-clause-headline
+returns-in-None-clause-headline g c = λ _. rw c.number-in-None.ensures.number
+    (c.promises_show_the_headline.ensures.law (map string_bytes c.args.words.now) (g.D.Desk.state c.args.desk.now) _ _ _
+    _
+    (c.runs_keep_promises.ensures.law (job_named c.args.words.now) (g.D.Desk.state c.args.desk.now) _ _ _ _
+    c.run_words-ending.ensures.ends.ends))
+
 pub returns-in-None-clause-statuses : goal.returns-in-None-clause-statuses
 returns-in-None-clause-statuses g c =
-    (c.runs_keep_promises.ensures.law (job_named c.args.words.now) (g.D.Desk.state c.args.desk.now) _ _ _ _
-    c.run_words-ending.ensures.ends.ends).statuses
+    rw c.number-in-None.ensures.number (c.runs_keep_promises.ensures.law (job_named c.args.words.now)
+    (g.D.Desk.state c.args.desk.now) _ _ _ _ c.run_words-ending.ensures.ends.ends).statuses
 
 pub returns-in-None-clause-same : goal.returns-in-None-clause-same
 returns-in-None-clause-same g c = c.run_words-ending.ensures.same
@@ -120,7 +120,8 @@ returns-in-None-clause-unpublished g c =
 
 pub returns-in-None-clause-quiet : goal.returns-in-None-clause-quiet
 returns-in-None-clause-quiet g c = λ none.
-    c.explain.ensures.quiet (quiet_by c.run_words-ending.ensures.ends.told none)
+    c.explain.ensures.quiet
+    (quiet_by c.run_words-ending.ensures.ends.told (rw c.number-in-None.ensures.number at none))
 
 pub returns-in-None-clause-frame : goal.returns-in-None-clause-frame
 returns-in-None-clause-frame g c = c.run_words-ending.ensures.frame

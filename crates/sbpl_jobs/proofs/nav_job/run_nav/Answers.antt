@@ -1,8 +1,9 @@
-use Rattle.std.proofs.Common.{None, false, refl}
+use Rattle.std.proofs.Common.{None, ap, false, refl}
 use Rattle.sbpl_checks.specs.sbpl_promises.GridSite.{grid_site}
 use Rattle.std.proofs.lemmas.Result.{err_from_is_err_and}
 use Rattle.sbpl_checks.specs.sbpl_job.declared.job.Job.TheVariants as job
 use Rattle.sbpl_checks.specs.sbpl_promises.Intents.{Planned}
+use Rattle.sbpl_checks.specs.sbpl_report.Statuses.{number_of}
 use Rattle.sbpl_checks.proofs.Frames.{writes_after}
 use Rattle.sbpl_plans.specs.Boards.{entries_of}
 use Rattle.sbpl_jobs.proofs.Ends.{ended}
@@ -13,7 +14,7 @@ use Rattle.sbpl_jobs.proofs.nav_job.run_nav.Goals as goal
 pub returns-clause-ends : goal.returns-clause-ends
 returns-clause-ends g c =
     let e = as_told grid_site false c.requires.range.1 c.make_plans-status.ensures.ends in
-    plain_ending _ _ _ _ _ _ _ c.plain.ensures.status c.plain.ensures.untold (plans_end e.all _ e.ends)
+    plain_ending _ _ _ _ _ _ _ (ap number_of c.plain.ensures.status) c.plain.ensures.untold (plans_end e.all _ e.ends)
     (ended _ (g.D.Desk.state c.read_grid_updates.new.desk) _ _ _ (job.Nav c.args.job.now)
     (Planned e.records e.all (entries_of c.args.live.now) e.broken) _ refl
     (all_shown grid_site c.in_ok-nav.updates c.ends-start.result.0 e)

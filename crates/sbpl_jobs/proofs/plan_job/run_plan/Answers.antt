@@ -1,4 +1,4 @@
-use Rattle.std.proofs.Common.{◌≡◌, ℕ, Bool, [], List, None, refl, subst, true, false, sym, ◌∙◌}
+use Rattle.std.proofs.Common.{◌≡◌, ℕ, Bool, [], List, None, ap, refl, subst, true, false, sym, ◌∙◌}
 use Rattle.std.proofs.lemmas.Result.{err_from_is_err_and}
 use Rattle.sbpl_checks.specs.sbpl_cost.World.{World}
 use Rattle.sbpl_checks.specs.sbpl_job.Jobs.{may_move}
@@ -13,6 +13,7 @@ use Rattle.sbpl_checks.specs.sbpl_promises.Published.{Entry}
 use Rattle.sbpl_checks.specs.sbpl_promises.Sites.{start_after}
 use Rattle.sbpl_checks.specs.sbpl_promises.Writing.{DeskState, IsOutputOf, ReadsOnly, WritesOnly}
 use Rattle.sbpl_checks.specs.sbpl_promises.declared.updates.Updates.{Updates}
+use Rattle.sbpl_checks.specs.sbpl_report.Statuses.{number_of}
 use Rattle.sbpl_checks.specs.sbpl_telling.declared.ending.Ending.{Ending}
 use Rattle.sbpl_checks.proofs.Frames.{writes_after}
 use Rattle.sbpl_jobs.specs.Endings.{IsJobEnding}
@@ -28,7 +29,7 @@ planned_so : (s t u : DeskState) (j : PlanJob) (log shown : List Entry) (w : Wor
     (start_after lattice_site.reporting w start updates.moves) goal 0 log shown None t u status
     → lattice_site.reporting.starts w start → lattice_site.reporting.ends w goal
     → ReadsWorld s.held j.sources w → ReadsUpdates s.held j.changes (scope_of (may_move j.search.planner) w) updates
-    → ReadsOnly s t → WritesOnly (IsOutputOf j.outputs) t u → ending.status ≡ status → ending.why ≡ []
+    → ReadsOnly s t → WritesOnly (IsOutputOf j.outputs) t u → number_of ending.status ≡ status → ending.why ≡ []
     → IsJobEnding s u log shown (job.Plan j) ending
 planned_so s t u j log shown w updates start goal status ending e start_is goal_is says changes_say read wrote is untold =
     plain_ending s u log shown (job.Plan j) status ending is untold (plans_end e.all status e.ends)
@@ -75,7 +76,8 @@ returns-then-moving-clause-ends g c =
     (subst (λ (b : Bool). ReadsUpdates (g.D.Desk.state c.args.desk.now).held c.args.job.now.changes
     (scope_of b c.in_ok-lattice.lattice) c.in_ok-lattice.updates)
     c.may_move-moving.ensures.value c.in_ok-lattice.ensures.updates.updates_are)
-    c.in_ok-lattice.ensures.frame c.make_plans-status.ensures.frame c.plain.ensures.status c.plain.ensures.untold
+    c.in_ok-lattice.ensures.frame c.make_plans-status.ensures.frame (ap number_of c.plain.ensures.status)
+    c.plain.ensures.untold
 
 pub returns-clause-ends : goal.returns-clause-ends
 returns-clause-ends g c =
@@ -87,7 +89,8 @@ returns-clause-ends g c =
     (subst (λ (b : Bool). ReadsUpdates (g.D.Desk.state c.args.desk.now).held c.args.job.now.changes
     (scope_of b c.in_ok-lattice.lattice) c.in_ok-lattice.updates)
     c.may_move-moving.ensures.value c.in_ok-lattice.ensures.updates.updates_are)
-    c.in_ok-lattice.ensures.frame c.make_plans-status-2.ensures.frame c.plain-2.ensures.status c.plain-2.ensures.untold
+    c.in_ok-lattice.ensures.frame c.make_plans-status-2.ensures.frame (ap number_of c.plain-2.ensures.status)
+    c.plain-2.ensures.untold
 
 pub returns-then-moving-clause-frame : goal.returns-then-moving-clause-frame
 returns-then-moving-clause-frame g c = writes_after _ _ _ _ c.in_ok-lattice.ensures.frame c.make_plans-status.ensures.frame

@@ -1,6 +1,7 @@
-use Rattle.std.proofs.Common.{None, refl, true}
+use Rattle.std.proofs.Common.{None, ap, refl, true}
 use Rattle.sbpl_checks.specs.sbpl_job.declared.job.Job.TheVariants as job
 use Rattle.sbpl_checks.specs.sbpl_promises.Intents.{Listed}
+use Rattle.sbpl_checks.specs.sbpl_report.Statuses.{number_of}
 use Rattle.sbpl_jobs.proofs.Ends.{ended}
 use Rattle.sbpl_checks.proofs.Writings.{status_ends}
 use Rattle.sbpl_jobs.proofs.Telling.{plain_ending, plans_end}
@@ -10,7 +11,8 @@ use Rattle.sbpl_checks.proofs.Frames.{writes_after}
 pub returns-in-Ok-clause-ends : goal.returns-in-Ok-clause-ends
 returns-in-Ok-clause-ends g c =
     let ends = status_ends _ c.write_listings.ensures.ends c.status_after-status.ensures.status in
-    λ log. plain_ending _ _ log log _ _ _ c.plain.ensures.status c.plain.ensures.untold (plans_end true _ ends)
+    λ log. plain_ending _ _ log log _ _ _ (ap number_of c.plain.ensures.status) c.plain.ensures.untold
+    (plans_end true _ ends)
     (ended _ (g.D.Desk.state c.read_lattice.new.desk) _ log log (job.Sweep c.args.from.now) (Listed c.in-Ok.lattice) _ tt
     refl (c.in-Ok.ensures.says, c.in-Ok.ensures.kept) c.read_lattice.ensures.frame
     ends c.write_listings.ensures.frame.others)
