@@ -154,7 +154,7 @@ fn change(
     Ok(session.change(alloc, writes)?)
 }
 
-/// Plans the way back: the goal is where the robot is now, and the start is where it is to go.
+/// Plans the way back: from the trip's goal, where the robot is now, to its start.
 fn plan_back(
     rt: &impl Print,
     alloc: Global,

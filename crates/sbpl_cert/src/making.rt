@@ -77,7 +77,8 @@ pub fn section_of<H: Guide>(
     ensures labels { IfOk result (IsOfLabels labels.now (H.distance guide.now) goal) }
     ensures shows { IfOk result
         (λ s. (n : Network) → n.states ≡ states_of labels.now → IsSound n → H.guides guide.now n goal
-        → AreSupported n labels.now.start (g_of labels.now) (v_of labels.now) → ShowsBound n labels.now.start goal (claim_of s)) }
+        → AreSupported n labels.now.start (g_of labels.now) (v_of labels.now)
+        → ShowsBound n labels.now.start goal (claim_of s)) }
 {
     let _start = labels.start();
     let low = labels.low(guide, goal);

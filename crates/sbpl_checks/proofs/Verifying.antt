@@ -1,5 +1,5 @@
 -- How the checking of sections ends, from how its parts end.
-use Rattle.std.proofs.Common.{◌≡◌, ℕ, zero, suc, ◌+◌, ◌≤◌, ◌∙◌, List, [], ◌∷◌, length, Some, None, Result, Ok, Err}
+use Rattle.std.proofs.Common.{◌≡◌, ℕ, zero, suc, ◌+◌, ◌≤◌, List, [], ◌∷◌, length, Some, None, Result, Ok, Err}
 use Rattle.std.proofs.Common.{IfOk, IfErr, ◌<◌, refl, sym, ap, subst, arith, inl}
 use Rattle.sbpl_worlds.specs.sbpl_fixed.Formats.{Left, start_at}
 use Rattle.sbpl_worlds.specs.sbpl_fixed.Tokens.{Piece}

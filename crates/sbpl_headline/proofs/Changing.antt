@@ -179,7 +179,7 @@ places_on_map m n (batch ∷ told) told_lines h =
 
 -- ---- the updates that were read
 
--- a change file that stands for map updates tells it
+-- a change file that stands for map updates tells them
 updates_by_text : (held : Told) (name : List ℕ) (m : CellMap) (headings : Option ℕ) (text : List ℕ) (c : Updates)
     → IfSome (held name) (λ bytes. text ≡ bytes) → IsTextOfUpdates m headings text c
     → AreUpdatesTold held (Some name) (record { map = m; headings = headings }) c
@@ -206,7 +206,7 @@ updates_by_text held name m (Some n) text c read h =
       count = sym (ap length t.2 ∙ length-map t.0 writes_of);
     }
 
--- map updates that were read are told by the lines of its change file, and by none where there is no such file
+-- map updates that were read are told by the lines of their change file, and by none where there is no such file
 pub updates_told : (held : Told) (changes : Option (List ℕ)) (s : Scope) (c : Updates) → ReadsUpdates held changes s c
     → AreUpdatesTold held changes s c
 updates_told held None s c h = record {

@@ -150,7 +150,7 @@ one_full : {n n' : Network} {h h' : ℕ → ℕ} {start goal plan : ℕ} {m : Ma
 one_full {n} {n'} {h} {h'} {start} {goal} {plan} {m} {found} alike s u x y =
     let number : s.plan ≡ u.plan = x.number ∙ sym y.number in
     let low : s.low ≡ u.low = one_low alike x.labels.low y.labels.low in
-    let answer : s.outcome ≡ u.outcome = x.answer ∙ sym y.answer in
+    let answer : s.outcome ≡ u.outcome = x.outcome ∙ sym y.outcome in
     let arcs : s.arcs ≡ u.arcs = x.arcs ∙ sym y.arcs in
     let labels : s.labels ≡ u.labels =
     ext_get_or section.no_row s.labels u.labels (x.labels.labels.states ∙ sym y.labels.labels.states)
@@ -168,7 +168,7 @@ one_sparse cut_one {n} {h} {h'} {start} {goal} {plan} {m} {found} all alike s u 
     let number : s.plan ≡ u.plan = x.number ∙ sym y.number in
     let states : s.states ≡ u.states = x.states ∙ sym y.states in
     let low : s.low ≡ u.low = one_low alike x.labels.low y.labels.low in
-    let answer : s.outcome ≡ u.outcome = x.answer ∙ sym y.answer in
+    let answer : s.outcome ≡ u.outcome = x.outcome ∙ sym y.outcome in
     let arcs : s.arcs ≡ u.arcs = x.arcs ∙ sym y.arcs in
     let own : AreCutRows s.outcome n m h' s.low u.rows =
     subst (λ (o : Outcome). AreCutRows o n m h' s.low u.rows) (sym answer)
@@ -239,14 +239,14 @@ expansions_traced line (p ∷ ps) = ap (λ (n : ℕ). p.expanded + n) (expansion
 
 as_many : {W : Type 0} {by : PlannerOn W} {w : W} {how : SearchJob} {outputs : Outputs} {start goal : ℕ}
     {before : Option Carried} {carried : Carried} {r : PlanRecord}
-    → (x : IsSearched by w how outputs start goal before carried r) → expansions r.passes ≡ expansions x.actions
-as_many {W} {by} x = ap expansions x.lines ∙ expansions_traced by.line x.actions
+    → (x : IsSearched by w how outputs start goal before carried r) → expansions r.passes ≡ expansions x.recorded
+as_many {W} {by} x = ap expansions x.lines ∙ expansions_traced by.line x.recorded
 
 -- what a plan expanded is within its budget and what the run had left
 within_room : {W : Type 0} {by : PlannerOn W} {w : W} {how : SearchJob} {outputs : Outputs} {start goal : ℕ}
     {before : Option Carried} {carried : Carried} {r : PlanRecord}
     → (x : IsSearched by w how outputs start goal before carried r)
-    → AreWithin how.budget (expanded_before before) x.actions x.spent
+    → AreWithin how.budget (expanded_before before) x.recorded x.spent
 within_room {W} {by} {w} {how} {outputs} {start} {goal} {before} {carried} {r} x = record {
   of_plan = omega (arith, x.within_budget, x.expanded, as_many x);
   of_run = omega (arith, x.within_run, x.counted, as_many x);
@@ -306,11 +306,11 @@ module _ {W : Type 0} (on : Site W) (Alike : W → W → Type 0) (alike : AreAli
       let guided : AreAlikeGuides (states_of x.begun) x.guide y.guide =
       λ s inside. guides s (subst (λ (k : ℕ). s < k) begun.states inside) in
       let passes : ArePasses by.means (record { network = n; guide = y.guide; goal = to; ask = ask }) how.first x.begun
-      y.actions other.labels y.spent = rw (one_network, begun.same) y.passes in
+      y.recorded other.labels y.spent = rw (one_network, begun.same) y.passes in
       let one =
-      law.plans q y.guide how.budget (expanded_before before) how.first x.begun carried.labels other.labels x.actions
-      y.actions x.spent y.spent begun.no_arc guided x.passes passes (within_room x) (within_room y) in
-      let placed = passes_placed by.means law.passes q x.actions how.first x.begun carried.labels x.spent x.passes in
+      law.plans q y.guide how.budget (expanded_before before) how.first x.begun carried.labels other.labels x.recorded
+      y.recorded x.spent y.spent begun.no_arc guided x.passes passes (within_room x) (within_room y) in
+      let placed = passes_placed by.means law.passes q x.recorded how.first x.begun carried.labels x.spent x.passes in
       let no_arc : back_of carried.labels carried.labels.start ≡ None = placed.no_arc begun.no_arc in
       let states : states_of carried.labels ≡ count = placed.states ∙ begun.states in
       let at_end : AreAlikeGuides (states_of carried.labels) x.guide y.guide =

@@ -118,7 +118,7 @@ module _ {W : Type 0} (by : PlannerOn W) (w : W) (guide : ℕ → ℕ) (start go
       raised = old.search.raised;
       begins = begins;
       left = left;
-      actions = ps;
+      recorded = ps;
       passes =
           subst (λ (a : Ask). AreFirstPasses by.means (inquiry_of (by.on.network w) guide
           (to_by by start goal) a) a.first old.search.labels ps left) same

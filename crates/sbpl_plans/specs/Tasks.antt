@@ -15,7 +15,7 @@ use Rattle.sbpl_worlds.specs.sbpl_report.declared.record.PlanRecord.{PlanRecord}
 use Rattle.sbpl_worlds.specs.sbpl_search.Meaning.{Meaning}
 
 -- these plans can be made in a world, whose parts belong together: they go between its states, by a search in range, and the map
--- and the robot, which moves or not, take their course in it
+-- updates are on its map, and so is the robot, which stays where it may not move
 pub record CanBeMade {W : Type 0} (on : Site W) (w : W) (t : Task) : Type 0 where
   pub start : t.start < (on.reporting.told w).states
   pub goal : t.goal < (on.reporting.told w).states

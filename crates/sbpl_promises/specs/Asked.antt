@@ -29,7 +29,7 @@ is_determined planner.AdStar = true
 is_determined planner.Back = true
 is_determined planner.Epase = false
 
--- a planner's search: what its passes note, what its calls mean, and how a note is told in a trace
+-- a planner's search: the actions that its passes record, what its calls mean, and how an action is told in a trace
 pub record Search : Type 1 where
   pub Action : Type 0
   pub means : Meaning Action

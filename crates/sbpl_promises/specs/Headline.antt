@@ -129,9 +129,9 @@ pub record IsSearched {W : Type 0} (by : PlannerOn W) (w : W) (how : SearchJob) 
   pub begins : Begins by.means by.on w (from_by by start goal) before begun raised
   pub raises : r.raised ≡ (if is_some outputs.trace then raised else [])
   pub spent : Bool
-  pub actions : List (PassRecord by.Action)
-  pub passes : ArePasses by.means (inquiry_of (by.on.network w) guide (to_by by start goal) (ask_of how outputs)) how.first begun actions carried.labels spent
-  pub lines : r.passes ≡ map (traced_pass by.line) actions
+  pub recorded : List (PassRecord by.Action)
+  pub passes : ArePasses by.means (inquiry_of (by.on.network w) guide (to_by by start goal) (ask_of how outputs)) how.first begun recorded carried.labels spent
+  pub lines : r.passes ≡ map (traced_pass by.line) recorded
   pub found : PlanResult FoundPath
   pub is_result : IsResultOf (by.on.network w) guide (to_by by start goal) carried.labels found
   pub told : IsToldOf (Leads by.on.reporting.back (by.on.reporting.told w) start goal) found r.outcome
@@ -152,9 +152,9 @@ pub record IsBrokenOff {W : Type 0} (by : PlannerOn W) (w : W) (how : SearchJob)
   pub raised : List ℕ
   pub begins : Begins by.means by.on w (from_by by start goal) before begun raised
   pub left : Marks
-  pub actions : List (PassRecord by.Action)
-  pub passes : AreFirstPasses by.means (inquiry_of (by.on.network w) guide (to_by by start goal) (ask_of how outputs)) how.first begun actions left
-  pub found_is : found ≡ founds actions
+  pub recorded : List (PassRecord by.Action)
+  pub passes : AreFirstPasses by.means (inquiry_of (by.on.network w) guide (to_by by start goal) (ask_of how outputs)) how.first begun recorded left
+  pub found_is : found ≡ founds recorded
 
 -- memory ran out in plan k, on the map after the first k batches, or before its first pass
 abbrev pub IsBrokenIn : {W : Type 0} → PlannerOn W → W → List (List Write) → SearchJob → Outputs → (starts : ℕ → ℕ) → (goal k : ℕ) → List Found → Type 0

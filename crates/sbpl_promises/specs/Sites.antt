@@ -1,4 +1,4 @@
--- What is planned on: a graph over a map of cells, what its heuristic says, and how plans on it are worded.
+-- What is planned on: a graph over a map of cells, what its heuristic says, and how plans on it are reported.
 use Rattle.std.specs.Prelude.{ℕ, ℤ, ◌≡◌, Bool, true, false, List, Option, Some, None, option_map, unwrap_or, take}
 use Rattle.std.specs.List.{filter_map, last_or}
 use Rattle.sbpl_report.specs.sbpl_graph.Network.{Network}
@@ -34,8 +34,8 @@ pub record Reporting (W : Type 0) : Type 1 where
 -- network: the graph of each world that is searched
 -- cells: its map, and which cells its arcs read
 -- says: what the heuristic says at each state, to the state to which the search goes
--- reporting: how it is worded
--- The record has no name of its own, since a workspace makes one of its ghost members: contracts name the site of W 'W.Workspace'.
+-- reporting: how plans on it are reported
+-- The record has no name of its own: a workspace's ghost members make such a record, which contracts name 'W.Workspace'.
 abbrev pub Site : Type 0 → Type 1
 Site W = record {
   network : W → Network;

@@ -97,7 +97,7 @@ impl<W: Terrain + Drop, H: Heuristic<W>, S: Search<W, H> + Drop> Session<W, H, S
         self.search.goal()
     }
 
-    /// The labels, as the last plan or the last change left them.
+    /// The labels, as the last call left them.
     pub fn labels(&self) -> &Labels
         ensures value { result.now ≡ self.now.search.labels }
         ensures labels { AreLabels self.now.search.labels }
@@ -223,8 +223,8 @@ impl<W: Terrain + Drop, H: Heuristic<W>, S: Search<W, H> + Drop> Session<W, H, S
         self.search.restart(start);
     }
 
-    /// The states that were raised when the last change made the labels ready, in order, where the planner raises states
-    /// outside its passes.
+    /// The states that were raised when the labels were last made ready for a plan, in order, where the planner raises states
+    /// outside its passes: by the last change, or none where another start came after it.
     pub fn raised(&self) -> &[u32]
         ensures value { result.now ≡ self.now.search.raised }
     {

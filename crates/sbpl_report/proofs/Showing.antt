@@ -112,7 +112,7 @@ module _ (n : Network) (sound : IsSound n) (guide : ℕ → ℕ) (goal : ℕ) (m
   in_full plan found s is number says copied made bounds = record {
     number = number;
     labels = made;
-    answer = says;
+    outcome = says;
     arcs = copied;
     shows = record {
       bound = bounds;
@@ -142,7 +142,7 @@ module _ (n : Network) (sound : IsSound n) (guide : ℕ → ℕ) (goal : ℕ) (m
     number = number;
     states = states;
     labels = made;
-    answer = says;
+    outcome = says;
     arcs = copied;
     shows = record {
       bound = bounds;

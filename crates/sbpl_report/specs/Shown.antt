@@ -46,7 +46,7 @@ arcs_of _ = []
 pub record IsShownInFull (n : Network) (guide : ℕ → ℕ) (start goal : ℕ) (plan : ℕ) (final : Marks) (found : PlanResult FoundPath) (s : FullSection) : Type 0 where
   pub number : s.plan ≡ plan
   pub labels : IsOfLabels final guide goal s
-  pub answer : s.outcome ≡ outcome_without_arcs found
+  pub outcome : s.outcome ≡ outcome_without_arcs found
   pub arcs : s.arcs ≡ arcs_of found
   pub shows : ShowsAll n start goal (claim_of s)
 
@@ -56,7 +56,7 @@ pub record IsShownSparsely (n : Network) (guide : ℕ → ℕ) (start goal : ℕ
   pub number : s.plan ≡ plan
   pub states : s.states ≡ states_of final
   pub labels : IsOfCutLabels n final guide goal s
-  pub answer : s.outcome ≡ outcome_without_arcs found
+  pub outcome : s.outcome ≡ outcome_without_arcs found
   pub arcs : s.arcs ≡ arcs_of found
   pub shows : ShowsAll n start goal (sparse_claim guide s)
 

@@ -1,5 +1,5 @@
 //! What the program prints: the record of a plan, and as texts its labels, its trace and its line, the lines of checks, of sweeps,
-//! of a demonstration and of refusals.
+//! of a demonstration and of refusals; and the statuses that it ends with.
 #![tactic(auto)]
 
 mod check_lines;

@@ -25,7 +25,7 @@ pub struct PathStep {
 /// The steps of a path, in order.
 pub type Steps = ListOf<PathStep>;
 
-/// A line of a trace: one thing that a planner noted.
+/// A line of a trace: one action of a search.
 #[derive(Clone, Copy)]
 pub enum TraceLine {
     /// An overconsistent state was expanded.

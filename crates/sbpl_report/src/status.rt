@@ -1,4 +1,4 @@
-//! How the program ends, in a number.
+//! How a run of the program ends, and the number of each way.
 
 ghost use Rattle.std.specs.Prelude.{◌≡◌};
 ghost use Rattle.sbpl_report.specs.Statuses.{number_of};

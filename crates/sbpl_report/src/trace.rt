@@ -13,12 +13,12 @@ use sbpl_plan::Piece::{Bytes, Milli, Number};
 use sbpl_plan::{PassRecord, Passes, Trace, push_all, push_bytes, push_field};
 use std::alloc::Global;
 
-/// What a pass did, as a line of a trace.
+/// An action of a pass, which has a line in a trace.
 pub trait Traced {
-    /// The line of a note.
+    /// The line of an action.
     ghost line: { Self → TraceLine };
 
-    /// The line of this note.
+    /// The line of this action.
     fn line(&self) -> TraceLine
         ensures value { result ≡ line self.now };
 }
@@ -62,8 +62,8 @@ fn lines_of<N: Traced>(alloc: Global, actions: &[N]) -> Result<Trace<TraceLine>,
     ensures lines { IfOk result (λ lines. lines ≡ map N.line actions.now) }
 {
     let mut lines = Vec::new(alloc);
-    for note in actions {
-        lines.push(note.line())?;
+    for action in actions {
+        lines.push(action.line())?;
     }
     Ok(Trace::of(lines))
 }

@@ -180,7 +180,7 @@ fn no_changes(alloc: Global, map: &Map) -> Result<Changes, NoMemory>
     }
 }
 
-/// The map updates of a change file in whose lines the robot stays where it is; one without batches where there is no such file.
+/// The map updates of a change file in whose lines the robot stays where it is; no batches where there is no such file.
 pub(crate) fn read_still<D: Desk>(
     alloc: Global,
     changes: &Option<Name>,
@@ -207,8 +207,8 @@ pub(crate) fn read_still<D: Desk>(
     judge_still(alloc, name, text.as_slice(), map)
 }
 
-/// The map updates of the change file on a lattice; one without batches where there is no such file. Lines of the file can say where the
-/// robot is where it may move.
+/// The map updates of the change file on a lattice; no batches where there is no such file. Where the robot may move, lines of
+/// the file can say where it is.
 pub(crate) fn read_change_file<D: Desk>(
     alloc: Global,
     changes: &Option<Name>,

@@ -1,4 +1,5 @@
-//! What a job plans on: the lattice or the grid that files stand for, with the map updates of a change file, or a lattice that is drawn.
+//! What a job plans on: the lattice or the grid that files stand for, with the map updates of a change file, or a lattice that
+//! is drawn.
 #![tactic(auto)]
 
 mod cells;

@@ -1,4 +1,4 @@
-//! Where the robot is, by map updates.
+//! Where map updates say that the robot is.
 
 ghost use Rattle.std.specs.Prelude.{◌≡◌, ◌<◌, length, IfSome};
 ghost use Rattle.sbpl_worlds.specs.Moves.{move_at};

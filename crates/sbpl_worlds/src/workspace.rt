@@ -22,10 +22,10 @@ pub trait Workspace: Terrain {
     /// What guides a search.
     type Best: Heuristic<Self>;
 
-    /// What guides a search says this at each state, in a world and to the state to which the search goes.
+    /// What the guide of a search says at each state, in a world and to the state to which the search goes.
     ghost says: { Self → (goal : ℕ) → (guide : ℕ → ℕ) → Type 0 };
 
-    /// How plans on it are worded.
+    /// How plans on it are reported.
     ghost reporting: { Reporting Self };
 
     /// The states between which the environment asks for plans: its start and its end.
@@ -80,7 +80,7 @@ pub trait Workspace: Terrain {
     fn has_its_arcs()
         ensures law { (w : Self) → Self.cells.is_made w → reporting.arcs (reporting.told w) w };
 
-    /// What guides a search says what it should.
+    /// What a guide says that is made for a world and a goal.
     ghost says_so: { (guide : Self.Best) (w : Self) (goal : ℕ) → Self.Best.is_made_for guide w goal
         → says w goal (Self.Best.distance guide) };
 

@@ -103,7 +103,7 @@ module _ {W : Type 0} (by : PlannerOn W) (w : W) (guide : ℕ → ℕ) (start go
         begins = begins;
         raises = subst (λ (a : Ask). x.raised ≡ (if a.traced then raised else [])) same raises;
         spent = planned.spent;
-        actions = planned.passes;
+        recorded = planned.passes;
         passes =
             subst (λ (a : Ask). ArePasses by.means (inquiry_of (by.on.network w) guide
             (to_by by start goal) a) a.first begun planned.passes final planned.spent) same passes;

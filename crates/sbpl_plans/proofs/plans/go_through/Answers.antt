@@ -71,7 +71,7 @@ start_at-start-requires-clause-place g c =
     (move_on_map on w (cells.map now) c.args.task.now.updates.now.batches c.args.task.now.updates.now.moves c.loop-k.k
     c.requires.task.updates.moves here next.width next.height)))
 
--- the map after the batch has as many states
+-- the graph after the batch has as many states as before
 as_many : (g : _) (c : After-change g) → (g.W.Workspace.reporting.told c.loop-k.session.world).states
     ≡ (g.W.Workspace.reporting.told c.change.new.self.world).states
 as_many g c =
