@@ -10,8 +10,10 @@ import argparse
 import math
 import os
 import re
+import struct
 import sys
 from dataclasses import dataclass, field
+from decimal import ROUND_HALF_EVEN, Decimal, InvalidOperation
 from typing import Callable, NamedTuple
 
 NANO = 10**9
@@ -139,6 +141,50 @@ def decimal_text(value: int) -> str:
     return f"{sign}{value // NANO}" + (f".{part}" if part else "")
 
 
+def decimal_of(text: str) -> Decimal | None:
+    """A finite number below 10^9 in absolute value; None for any other text."""
+    try:
+        value = Decimal(text)
+    except InvalidOperation:
+        return None
+    return value if value.is_finite() and -NANO < value < NANO else None
+
+
+def billionths(value: Decimal) -> int:
+    """A number in billionths, rounded to the nearest."""
+    return int((value * NANO).to_integral_value(ROUND_HALF_EVEN))
+
+
+def single(value: float) -> float:
+    """The float32 that is nearest to a number."""
+    return struct.unpack("<f", struct.pack("<f", value))[0]
+
+
+def length_of(value: Decimal) -> int:
+    """A length of a ROS map in nanometres, rounded to the nearest.
+
+    Some ROS tools print a float32 as a double, and so 0.05 as 0.05000000074505806. A number that is exactly a float32 is taken
+    as the shortest decimal with that float32. Nine digits are enough for any, so a number with no more is taken as it stands.
+    """
+    double = float(value)
+    if len(value.normalize().as_tuple().digits) > 9 and single(double) == double:
+        texts = (f"{double:.{digits}g}" for digits in range(1, 10))
+        value = next(Decimal(text) for text in texts if single(float(text)) == double)
+    return billionths(value)
+
+
+def plain_length(text: str) -> int | None:
+    """A decimal without exponent as a length in nanometres; None for any other text."""
+    value = None if nano(text) is None else decimal_of(text)
+    return None if value is None else length_of(value)
+
+
+def extent_text(left: int, low: int, width: int, height: int, cell: int) -> str:
+    """Where a map lies whose lower left corner is here, in nanometres; a point on its upper ends is off it."""
+    ends = [decimal_text(value) for value in (left, left + width * cell, low, low + height * cell)]
+    return f"its extent is {ends[0]} to below {ends[1]} by {ends[2]} to below {ends[3]} m"
+
+
 def read_bytes(path: str) -> bytes:
     """A file's bytes."""
     try:
@@ -259,7 +305,7 @@ def read_environment(path: str) -> Environment:
         tokens.word(word)
         pose = tokens.pose(name, MOST_NUMBER)
         if not (0 <= pose.x // scales[0] < width and 0 <= pose.y // scales[0] < height):
-            raise tokens.fault(f"{name} lies off the map")
+            raise tokens.fault(f"{name} lies off the map: {extent_text(0, 0, width, height, scales[0])}")
         poses.append(pose)
     tokens.word("environment:")
     costs = [[tokens.whole("a cost", 0, 255) for _ in range(width)] for _ in range(height)]
@@ -501,6 +547,11 @@ def setting(reader: Callable[[str], int | None], shown: Callable[[int], str], ki
 def metres(low: int, high: int) -> Callable[[str], int]:
     """A reader of a setting: a decimal from low to high billionths."""
     return setting(nano, decimal_text, "decimal", low, high)
+
+
+def length(low: int, high: int) -> Callable[[str], int]:
+    """A reader of a setting: a length from low to high nanometres, rounded as that of a ROS map is."""
+    return setting(plain_length, decimal_text, "decimal", low, high)
 
 
 def number(low: int, high: int) -> Callable[[str], int]:
