@@ -1,4 +1,4 @@
-"""Readers for the planner's files: environments, motion primitives, changes and reports.
+"""Readers for the planner's files: environments of lattices and of grids, motion primitives, changes and reports.
 
 The formats are those of docs/FORMATS.md. Lengths are kept in whole nanometres, times in nanoseconds and angles in
 nanoradians, as the planner reads them. A fault is raised as `BadInput`, which names the file and the line.
@@ -19,6 +19,8 @@ from typing import Callable, NamedTuple
 NANO = 10**9
 FULL_TURN = 6_283_185_307
 USUAL_HEADINGS = 16
+GRID_HEADINGS = 1
+GRID_STEPS = [(1, 0), (1, 1), (0, 1), (-1, 1), (-1, 0), (-1, -1), (0, -1), (1, -1)]
 MOST_STATES = 2**23
 MOST_POSES = 200_000
 MOST_NUMBER = 10**18
@@ -46,7 +48,7 @@ class Place(NamedTuple):
 
 @dataclass
 class Environment:
-    """What an environment file says; row 0 of the costs is the lowest."""
+    """What an environment file says; row 0 of the costs is the lowest. A grid has one heading, 0, and no speeds."""
 
     width: int
     height: int
@@ -65,6 +67,11 @@ class Environment:
         """The cell and the heading of a pose."""
         return Place(pose.x // self.cell, pose.y // self.cell, heading_of(self.headings, pose.theta))
 
+    @property
+    def is_grid(self) -> bool:
+        """Whether it is a grid with eight neighbours, as `temjoask nav` plans on."""
+        return self.headings == GRID_HEADINGS
+
     def is_on_map(self, x: int, y: int) -> bool:
         """Whether the map has this cell."""
         return 0 <= x < self.width and 0 <= y < self.height
@@ -81,6 +88,14 @@ class Primitive:
     to: int
     multiplier: int
     poses: list[Pose]
+
+
+class Leg(NamedTuple):
+    """A step of a path: its primitive, how it moves, and the poses along it in metres and radians."""
+
+    primitive: Primitive
+    direction: str
+    poses: list[tuple[float, float, float]]
 
 
 @dataclass
@@ -238,9 +253,13 @@ class Tokens:
         self.next += 1
         return token
 
+    def has(self, place: int, word: str) -> bool:
+        """Whether a word stands at this place of the file, counted from 0."""
+        return place < len(self.tokens) and self.tokens[place][0] == word
+
     def takes(self, word: str) -> bool:
         """Takes a word where it stands next; whether it does."""
-        if self.next == len(self.tokens) or self.tokens[self.next][0] != word:
+        if not self.has(self.next, word):
             return False
         self.word(word)
         return True
@@ -282,9 +301,36 @@ class Tokens:
             raise self.fault(f"'{token[:40]}' stands after the end")
 
 
-def read_environment(path: str) -> Environment:
-    """Reads an environment file."""
+def read_grid(tokens: Tokens, cell: int) -> Environment:
+    """Reads the environment file of a grid, which says no cell size."""
+    tokens.word("discretization(cells):")
+    width = tokens.whole("the width", 1, MOST_STATES)
+    height = tokens.whole("the height", 1, MOST_STATES)
+    if width * height > MOST_STATES:
+        raise tokens.fault(f"the map of {width} by {height} cells is too large: at most {MOST_STATES} cells")
+    tokens.word("obsthresh:")
+    obsthresh = tokens.whole("obsthresh", 0, 255)
+    poses = []
+    for word, name in [("start(cells):", "start"), ("end(cells):", "end")]:
+        tokens.word(word)
+        x, y = (tokens.whole(f"{axis} of the {name}", 0, MOST_STATES - 1) for axis in "xy")
+        if not (x < width and y < height):
+            raise tokens.fault(f"the {name} lies off the map")
+        poses.append(Pose((2 * x + 1) * cell // 2, (2 * y + 1) * cell // 2, 0))
+    tokens.word("environment:")
+    costs = [[tokens.whole("a cost", 0, 255) for _ in range(width)] for _ in range(height)]
+    tokens.end()
+    return Environment(width, height, GRID_HEADINGS, obsthresh, obsthresh, 0, cell, 0, 0, *poses, costs)
+
+
+def read_environment(path: str, cell: int | None = None) -> Environment:
+    """Reads an environment file of a lattice or of a grid. A cell size is that of a grid, which says none (otherwise a metre).
+
+    A lattice must have that cell size.
+    """
     tokens = Tokens(path)
+    if tokens.has(5, "start(cells):"):
+        return read_grid(tokens, cell or NANO)
     tokens.word("discretization(cells):")
     width = tokens.whole("the width", 1, 8388608)
     height = tokens.whole("the height", 1, 8388608)
@@ -300,6 +346,8 @@ def read_environment(path: str) -> Environment:
     for word in ["cellsize(meters):", "nominalvel(mpersecs):", "timetoturn45degsinplace(secs):"]:
         tokens.word(word)
         scales.append(tokens.decimal(word[:-1], 1, 10**12))
+        if cell not in (None, scales[0]):
+            raise tokens.fault(f"the cell size is {decimal_text(scales[0])}, and not {decimal_text(cell)}")
     poses = []
     for word, name in [("start(meters,rads):", "the start"), ("end(meters,rads):", "the end")]:
         tokens.word(word)
@@ -369,6 +417,35 @@ def read_primitives(path: str, cell: int, headings: int = USUAL_HEADINGS) -> lis
     return primitives
 
 
+def primitive_scale(path: str) -> tuple[int, int]:
+    """The cell size and the number of headings that a primitive file is for."""
+    tokens = Tokens(path)
+    tokens.word("resolution_m:")
+    cell = tokens.decimal("the resolution", 1, 10**12)
+    tokens.word("numberofangles:")
+    return cell, tokens.whole("the number of angles", 1, 64)
+
+
+def grid_primitives(cell: int) -> list[Primitive]:
+    """The steps of a grid as primitives: one for each of the eight directions, which is its id."""
+    found = []
+    for number, (dx, dy) in enumerate(GRID_STEPS):
+        theta = number * FULL_TURN // 8
+        found.append(Primitive(number, 0, dx, dy, 0, 1, [Pose(0, 0, theta), Pose(dx * cell, dy * cell, theta)]))
+    return found
+
+
+def read_steps(path: str, environment: Environment, primitives: str | None) -> list[Primitive]:
+    """What the steps on a map can be: the primitives of a file; on a grid the eight directions, without a file."""
+    if environment.is_grid:
+        if primitives is not None:
+            raise BadInput(f"{path}: it is a grid of `temjoask nav`, so there is no primitive file, and none may be named")
+        return grid_primitives(environment.cell)
+    if primitives is None:
+        raise BadInput(f"{path}: it is no grid of `temjoask nav`, so a primitive file must be named too")
+    return read_primitives(primitives, environment.cell, environment.headings)
+
+
 def read_changes(path: str, environment: Environment) -> tuple[list[list[tuple[int, int, int]]], list[Place]]:
     """Reads a change file; its batches, each a list of x, y and the cost that is written, and where each plan begins."""
     place = environment.place_of(environment.start)
@@ -413,11 +490,12 @@ def apply_batch(costs: list[list[int]], batch: list[tuple[int, int, int]]) -> di
 
 
 class ReportReader:
-    """Reads a report of `temjoask plan` line by line."""
+    """Reads a report of `temjoask plan`, or of `temjoask nav`, line by line."""
 
     def __init__(self, path: str, headings: int):
         self.path = path
         self.headings = headings
+        self.size = 2 if headings == GRID_HEADINGS else 3
         self.plans: list[Plan] = []
         self.line = 0
         self.left = 0
@@ -435,8 +513,8 @@ class ReportReader:
         return values
 
     def place(self, fields: list[str]) -> Place:
-        """A cell and a heading."""
-        place = Place(*self.numbers(fields))
+        """A cell and a heading; on a grid a cell."""
+        place = Place(*self.numbers(fields), *[0] * (3 - self.size))
         if place.t >= self.headings:
             raise self.fault(f"heading {place.t} is not in 0..{self.headings - 1}")
         return place
@@ -460,7 +538,7 @@ class ReportReader:
         elif word == "done" and count == 1 and plan:
             self.done = True
         elif plan is None:
-            raise self.fault("no report of 'temjoask plan' begins so: 'plan 0' must stand first")
+            raise self.fault("no report of a plan begins so: 'plan 0' must stand first")
         elif word == "pass" and count >= 4 and fields[2] == "expanded" and not plan.result:
             plan.expanded += self.numbers(fields[3:4])[0]
         elif word == "spent" and count == 2 and not plan.result:
@@ -472,9 +550,9 @@ class ReportReader:
             if not re.fullmatch(r"[0-9]+\.[0-9]{3}", fields[5]):
                 raise self.fault(f"'{fields[5][:40]}' is no bound with three decimals")
             plan.result, plan.bound = "path", fields[5]
-        elif word == "pose" and count == 4 and plan.result == "path" and plan.start is None:
+        elif word == "pose" and count == 1 + self.size and plan.result == "path" and plan.start is None:
             plan.start = self.place(fields[1:])
-        elif word == "step" and count == 5 and plan.start is not None and self.left:
+        elif word == "step" and count == 2 + self.size and plan.start is not None and self.left:
             plan.steps.append(Step(self.numbers(fields[1:2])[0], self.place(fields[2:]), self.line))
             self.left -= 1
         else:
@@ -492,7 +570,7 @@ class ReportReader:
 
 
 def read_report(path: str, headings: int = USUAL_HEADINGS) -> list[Plan]:
-    """Reads a report of `temjoask plan` for a number of headings; its plans in order."""
+    """Reads a report of `temjoask plan` for a number of headings, or of `temjoask nav`; its plans in order."""
     return ReportReader(path, headings).read()
 
 
@@ -501,9 +579,23 @@ def centre_of(cell: int, place: Place) -> tuple[float, float]:
     return (2 * place.x + 1) * cell / (2 * NANO), (2 * place.y + 1) * cell / (2 * NANO)
 
 
-def trail(report: str, environment: Environment, primitives: list[Primitive],
-          plan: Plan, start: Place | None) -> list[list[tuple[float, float, float]]]:
-    """The poses along each step of a path, in metres and radians from the map's lower left corner.
+def direction_of(primitive: Primitive) -> str:
+    """How a primitive moves: forward, backward (on the whole against its heading) or turn (in place)."""
+    way = along = 0.0
+    x, y, theta = 0, 0, primitive.poses[0].theta
+    for pose in primitive.poses:
+        middle = (theta + math.remainder(pose.theta - theta, FULL_TURN) / 2) / NANO
+        dx, dy = pose.x - x, pose.y - y
+        way += math.hypot(dx, dy)
+        along += dx * math.cos(middle) + dy * math.sin(middle)
+        x, y, theta = pose
+    if way == 0:
+        return "turn"
+    return "backward" if along < -0.001 * way else "forward"
+
+
+def trail(report: str, environment: Environment, primitives: list[Primitive], plan: Plan, start: Place | None) -> list[Leg]:
+    """The steps of a path, in metres and radians from the map's lower left corner.
 
     The path must lead by the primitives from this start, where it is known, to the environment's end; otherwise the files do
     not belong together.
@@ -521,7 +613,8 @@ def trail(report: str, environment: Environment, primitives: list[Primitive],
         if not environment.is_on_map(step.place.x, step.place.y):
             raise BadInput(f"{report}:{step.line}: the step leads off the map")
         x, y = centre_of(environment.cell, place)
-        legs.append([(x + pose.x / NANO, y + pose.y / NANO, pose.theta / NANO) for pose in primitive.poses])
+        poses = [(x + pose.x / NANO, y + pose.y / NANO, pose.theta / NANO) for pose in primitive.poses]
+        legs.append(Leg(primitive, direction_of(primitive), poses))
         place = step.place
     if place != environment.place_of(environment.end):
         raise BadInput(f"{report}:{plan.line}: the path of plan {plan.number} does not end at the environment's end")
