@@ -1,6 +1,5 @@
 -- What holds of every graph, and of every guide.
-use Rattle.std.specs.Prelude.{◌≡◌, ℕ, ◌+◌, ◌^◌, ◌<◌, ◌≤◌, Some, IsSome, refl}
-use Rattle.std.proofs.Common.{arith}
+use Rattle.std.specs.Prelude.{◌≡◌, ℕ, ◌+◌, ◌^◌, ◌<◌, ◌≤◌, Some, IsSome}
 use Rattle.sbpl_graph.specs.Network.{Network, IsArc, IsFreeArc}
 
 -- the laws of a graph's states, arcs and costs
@@ -36,7 +35,3 @@ pub record HasGaps (n : Network) : Type 0 where
 pub record IsConsistent (n : Network) (goal : ℕ) (h : ℕ → ℕ) : Type 0 where
   pub at_goal : h goal ≡ 0
   pub along : (s k t c : ℕ) → IsFreeArc n s k t c → h s ≤ c + h t
-
--- a guide that is 0 everywhere is consistent
-pub zero_is_consistent : (n : Network) (goal : ℕ) → IsConsistent n goal (λ _. 0)
-zero_is_consistent n goal = record { at_goal = refl; along = λ s k t c arc. omega arith }

@@ -10,8 +10,7 @@ pub struct Zero;
 
 impl Guide for Zero {
     ghost use Rattle.std.specs.Prelude.{ℕ};
-    ghost use Rattle.sbpl_graph.specs.Laws.{zero_is_consistent};
-    ghost use Rattle.std.proofs.Common.{arith};
+    ghost use Rattle.std.proofs.Common.{arith, refl};
 
     ghost distance = { λ _ _. 0 };
 
@@ -19,7 +18,7 @@ impl Guide for Zero {
 
     ghost guides = { λ _ _ _. Unit {0} };
 
-    ghost consistent = { λ _ n goal _. zero_is_consistent n goal };
+    ghost consistent = { λ _ _ _ _. record { at_goal = refl; along = λ _ _ _ _ _. Prim.omega arith } };
 
     ghost covered = { λ _ _ _ _ _ _. tt };
 

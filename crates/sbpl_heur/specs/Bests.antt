@@ -1,6 +1,5 @@
 -- The heuristic: the cell bound joined with the gap.
 use Rattle.std.specs.Prelude.{◌≡◌, ℕ, ◌*◌, ◌/◌, ◌%◌, ◌^◌, ◌<◌, ◌≤◌, max, List, length, slice_index}
-use Rattle.std.proofs.Common.{arith, subst}
 use Rattle.sbpl_serial.specs.sbpl_graph.Network.{Network}
 use Rattle.sbpl_serial.specs.sbpl_graph.Laws.{IsConsistent}
 use Rattle.sbpl_cost.specs.sbpl_cfg.Environment.{Environment}
@@ -69,9 +68,3 @@ pub record AreParts (b : Table) (walks : Walking) : Type 0 where
   pub cells : cell_count walks.board ≡ length b.cells
   pub start : walks.labels.start ≡ b.goal / length b.turns
   pub hops : walks.board.room ≡ b.room
-
-pub guide_covers : (b : Table) (n : Network) (goal s : ℕ) → IsGuide n goal b → s < n.states → IsKnown b s
-guide_covers b n goal s guide state = subst (λ count. s < count) guide.states state
-
-pub guide_is_bounded : (b : Table) (n : Network) (goal s : ℕ) → IsGuide n goal b → s < n.states → distance_in b s < 2 ^ 55
-guide_is_bounded b n goal s guide state = omega (arith, guide.table.cells (s / length b.turns), guide.table.turns (s % length b.turns))

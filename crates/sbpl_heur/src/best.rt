@@ -150,7 +150,9 @@ impl Heuristic<Lattice> for Best {
 }
 
 impl Guide for Best {
-    ghost use Rattle.sbpl_heur.specs.Bests.{distance_in, IsKnown, IsGuide, guide_is_bounded, guide_covers};
+    ghost use Rattle.std.specs.Prelude.{◌<◌, ◌/◌, ◌%◌, length};
+    ghost use Rattle.std.proofs.Common.{arith, subst};
+    ghost use Rattle.sbpl_heur.specs.Bests.{distance_in, IsKnown, IsGuide};
 
     ghost distance = { distance_in };
 
@@ -160,9 +162,9 @@ impl Guide for Best {
 
     ghost consistent = { λ b n goal h. h.consistent };
 
-    ghost covered = { guide_covers };
+    ghost covered = { λ b n goal s guide state. subst (λ count. s < count) guide.states state };
 
-    ghost bounded = { guide_is_bounded };
+    ghost bounded = { λ b n goal s guide state. Prim.omega (arith, guide.table.cells (s / length b.turns), guide.table.turns (s % length b.turns)) };
 
     fn to_goal(&self, s: u32) -> u64 {
         let headings = self.turns.len() as u32;

@@ -144,7 +144,8 @@ impl Graph for Table {
 impl Guide for Table {
     ghost use Rattle.std.specs.Prelude.{◌≡◌, ◌<◌};
     ghost use Rattle.std.proofs.Common.{arith};
-    ghost use Rattle.tests_graphs.specs.Sample.{height, sample, sample_is_consistent};
+    ghost use Rattle.std.proofs.lemmas.Bool.Decides.{nat_tests};
+    ghost use Rattle.tests_graphs.specs.Sample.{height, sample};
 
     ghost distance = { λ table s. height table.heights s };
 
@@ -152,7 +153,7 @@ impl Guide for Table {
 
     ghost guides = { λ table n goal. (n ≡ sample table.last table.arcs table.heights) × (height table.heights goal ≡ 0) };
 
-    ghost consistent = { λ table n goal fit. sample_is_consistent table.last table.arcs table.heights n goal fit.0 fit.1 };
+    ghost consistent = { λ table n goal fit. record { at_goal = fit.1; along = λ s k t c arc. Prim.grind (arith, nat_tests, fit.0, arc.head, arc.cost) } };
 
     ghost covered = { λ table n goal s fit inside. Prim.grind (arith, fit.0) };
 
