@@ -1,12 +1,13 @@
 -- Raising: states whose v is below their g lose it in turn, until there are none.
-use Rattle.std.specs.Prelude.{◌≡◌, ◌≢◌, ℕ, ◌<◌, ◌≤◌, Some, List, [], ◌∷◌, ◌++◌}
+use Rattle.std.specs.Prelude.{◌≡◌, ◌≢◌, ℕ, ◌<◌, ◌≤◌, ◌⊎◌, Some, List, [], ◌∷◌, ◌++◌}
 use Rattle.std.specs.List.{All, AllPairs, Contains}
 use Rattle.std.specs.List.Sorted.{IsStrictlyIncreasing}
 use Rattle.sbpl_ara.specs.sbpl_graph.Exact.{AreExact}
 use Rattle.sbpl_ara.specs.sbpl_graph.Kept.{NoneUnder}
 use Rattle.sbpl_ara.specs.sbpl_graph.Network.{Network}
 use Rattle.sbpl_ara.specs.sbpl_labels.Marks.{Marks, states_of, g_of, v_of, back_of}
-use Rattle.sbpl_ara.specs.sbpl_serial.Run.{IsUnder, RaisesState}
+use Rattle.sbpl_ara.specs.sbpl_search.Ready.{AreReady, AreUsable, IsStartFresh}
+use Rattle.sbpl_ara.specs.sbpl_serial.Run.{IsOver, IsUnder, RaisesState}
 
 -- these are the underconsistent states, by number upwards
 pub record AreUnder (m : Marks) (states : List ℕ) : Type 0 where
@@ -52,6 +53,17 @@ pub record IsRaisedBy (n : Network) (old : Marks) (raised : List ℕ) (new : Mar
   pub once : AllPairs (λ s t. s ≢ t) raised
   pub none_under : NoneUnder (states_of new) (g_of new) (v_of new)
   pub exact : AreExact n new.start (g_of new) (v_of new) (back_of new)
+
+-- These states are raised in turn until none is underconsistent. Then the labels are as ready for a search as they were usable, at
+-- each count of expansions; only raised states became overconsistent; the start and the number of states stay.
+pub record RaisesAll (n : Network) (old : Marks) (raised : List ℕ) (new : Marks) : Type 0 where
+  pub by_raising : IsRaisedBy n old raised new
+  pub ready : (count : ℕ) → AreUsable n old count → AreReady n new count
+  pub over : (s : ℕ) → IsOver new s → IsOver old s ⊎ Contains raised s
+  pub inside : All (λ s. s < states_of old) raised
+  pub fresh : IsStartFresh old → IsStartFresh new
+  pub start : new.start ≡ old.start
+  pub states : states_of new ≡ states_of old
 
 -- the list of the last call, and its room
 pub record Raising : Type 0 where

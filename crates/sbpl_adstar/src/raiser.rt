@@ -1,16 +1,16 @@
 //! Underconsistent states are raised before a search that takes none.
 
-ghost use Rattle.std.specs.Prelude.{◌≡◌, ◌≢◌, ℕ, ◌^◌, ◌<◌, ◌≤◌, ◌↔◌, ◌⊎◌, [], IfOk, IsTrue};
+ghost use Rattle.std.specs.Prelude.{◌≡◌, ◌≢◌, ℕ, ◌^◌, ◌<◌, ◌≤◌, ◌↔◌, [], IfOk, IsTrue};
 ghost use Rattle.std.specs.Prelude.{Option, Some, vec_capacity};
 ghost use Rattle.std.specs.List.{All, Contains};
 ghost use Rattle.std.specs.List.Sorted.{IsStrictlyIncreasing};
 ghost use Rattle.sbpl_ara.specs.sbpl_graph.Fit.{FitCount};
 ghost use Rattle.sbpl_ara.specs.sbpl_labels.Marks.{Marks, states_of, g_of, v_of, back_of};
-ghost use Rattle.sbpl_ara.specs.sbpl_search.Ready.{AreReady, AreUsable, IsStartFresh};
+ghost use Rattle.sbpl_ara.specs.sbpl_search.Ready.{AreUsable};
 ghost use Rattle.sbpl_ara.specs.sbpl_serial.Raised.{IsReturned};
-ghost use Rattle.sbpl_ara.specs.sbpl_serial.Run.{IsOver, IsUnder, RaisesState};
+ghost use Rattle.sbpl_ara.specs.sbpl_serial.Run.{IsUnder, RaisesState};
 ghost use Rattle.sbpl_adstar.specs.Listed.{AddsBecome, AddsUnder, AreListed};
-ghost use Rattle.sbpl_adstar.specs.Raised.{IsRaisedBy};
+ghost use Rattle.sbpl_adstar.specs.Raised.{RaisesAll};
 
 use sbpl_ara::{Graph, Labels, NoMemory, raising_goes_arc_by_arc};
 use std::alloc::Global;
@@ -43,29 +43,46 @@ impl Raiser {
 
     /// Raises states in turn until none is underconsistent: v of an underconsistent state becomes infinite, and each state but the
     /// start whose back arc begins at it is recomputed (Anytime D*, Likhachev, Ferguson, Gordon, Stentz and Thrun 2005, but before
-    /// the search and not within it). First come the touched states that are underconsistent, upwards, and then each state that
-    /// becomes so, as this is seen, with heads by arc numbers upwards. Before the call only touched states are underconsistent, so
-    /// only these are looked at, and the heads of the raised ones. It takes no memory.
-    pub fn raise_all<G: Graph>(&mut self, graph: &G, labels: &mut Labels, touched: &[u32])
+    /// the search and not within it). First come the states that are underconsistent before the call, upwards, and then each state
+    /// that becomes so, as this is seen, with heads by arc numbers upwards. It looks at all states: `raise_touched` looks at few. It
+    /// takes no memory.
+    pub fn raise_all<G: Graph>(&mut self, graph: &G, labels: &mut Labels)
+        requires room { states_of labels.old ≤ self.old.room }
+        requires usable { AreUsable (G.network graph.now) labels.old (2 ^ 30) }
+        ensures raised { RaisesAll (G.network graph.now) labels.old self.new.raised labels.new }
+        ensures room { self.new.room ≡ self.old.room }
+    {
+        self.raised.clear();
+        list_all_under(&mut self.raised, labels, graph.states());
+        self.raise_listed(graph, labels);
+    }
+
+    /// Does what `raise_all` does, where only touched states, which come upwards and once each, are underconsistent before the
+    /// call: only these are looked at, and the heads of the raised ones. It takes no memory.
+    pub fn raise_touched<G: Graph>(&mut self, graph: &G, labels: &mut Labels, touched: &[u32])
         requires room { states_of labels.old ≤ self.old.room }
         requires usable { AreUsable (G.network graph.now) labels.old (2 ^ 30) }
         requires inside { All (λ t. t < states_of labels.old) touched.now }
         requires upwards { IsStrictlyIncreasing touched.now }
         requires under { (s : ℕ) → s < states_of labels.old → IsUnder labels.old s → Contains touched.now s }
-        ensures raised { IsRaisedBy (G.network graph.now) labels.old self.new.raised labels.new }
-        // They are as ready for a search as they were usable, at each count of expansions.
-        ensures ready { (count : ℕ) → AreUsable (G.network graph.now) labels.old count
-            → AreReady (G.network graph.now) labels.new count }
-        // Only raised states become overconsistent.
-        ensures over { (s : ℕ) → IsOver labels.new s → IsOver labels.old s ⊎ Contains self.new.raised s }
-        ensures fresh { IsStartFresh labels.old → IsStartFresh labels.new }
-        ensures start { labels.new.start ≡ labels.old.start }
-        ensures states { states_of labels.new ≡ states_of labels.old }
-        ensures inside { All (λ s. s < states_of labels.old) self.new.raised }
+        ensures raised { RaisesAll (G.network graph.now) labels.old self.new.raised labels.new }
         ensures room { self.new.room ≡ self.old.room }
     {
         self.raised.clear();
         list_under(&mut self.raised, labels, touched);
+        self.raise_listed(graph, labels);
+    }
+
+    /// Raises the listed states, which are the underconsistent ones, upwards, and then each state that becomes so.
+    fn raise_listed<G: Graph>(&mut self, graph: &G, labels: &mut Labels)
+        requires room { states_of labels.old ≤ self.old.room }
+        requires usable { AreUsable (G.network graph.now) labels.old (2 ^ 30) }
+        requires listed { AreListed labels.old self.old.raised }
+        requires under { All (IsUnder labels.old) self.old.raised }
+        requires upwards { IsStrictlyIncreasing self.old.raised }
+        ensures raised { RaisesAll (G.network graph.now) labels.old self.new.raised labels.new }
+        ensures room { self.new.room ≡ self.old.room }
+    {
         let _states = graph.states();
         let mut next = 0;
         'raises: while next < self.raised.len() {
@@ -98,6 +115,23 @@ fn is_under(labels: &Labels, s: u32) -> bool
     ensures under { IsTrue result ↔ IsUnder labels.now s }
 {
     labels.v(s) < labels.g(s)
+}
+
+/// Lists the underconsistent states, upwards.
+fn list_all_under(list: &mut Vec<u32>, labels: &Labels, count: u32)
+    requires empty { list.old.items ≡ [] }
+    requires count { count ≡ states_of labels.now }
+    requires room { states_of labels.now ≤ vec_capacity list.old }
+    ensures listed { AreListed labels.now list.new.items }
+    ensures under { All (IsUnder labels.now) list.new.items }
+    ensures upwards { IsStrictlyIncreasing list.new.items }
+    ensures room { vec_capacity list.new ≡ vec_capacity list.old }
+{
+    for s in 0..count {
+        if is_under(labels, s) {
+            list.push_reserved(s);
+        }
+    }
 }
 
 /// Lists the underconsistent ones of these states, among which all are, upwards.

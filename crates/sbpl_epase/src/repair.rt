@@ -39,7 +39,7 @@ pub(crate) fn repair<G: Graph>(
     ensures room { raiser.new.room ≡ raiser.old.room }
 {
     change_labels(labels, graph, touched);
-    raiser.raise_all(graph, labels, touched);
+    raiser.raise_touched(graph, labels, touched);
     space.note_over(labels, touched);
     space.note_over(labels, raiser.raised());
 }

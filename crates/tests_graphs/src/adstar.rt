@@ -5,8 +5,8 @@ ghost use Rattle.sbpl_plan.specs.sbpl_labels.Marks.{states_of};
 ghost use Rattle.tests_graphs.specs.Sample.{height};
 
 use crate::table::{DETOUR, Table};
-use sbpl_adstar::{AdStar, Ara, Step, means_adstar};
-use sbpl_plan::{Budget, PassEnd, Walk, Zero};
+use sbpl_adstar::{AdStar, Ara, Raiser, Step, means_adstar};
+use sbpl_plan::{Budget, Labels, PassEnd, Walk, Zero};
 use std::test::Fail;
 
 /// After a pass from initial labels to state 5, by the guide to it, state 3 is the goal. Answers whether a pass without a guide
@@ -43,5 +43,18 @@ fn aimed_at_another_goal(rt: HostRuntime) -> Result<(), Fail> {
     drop(search);
     drop(arcs);
     assert!(rt; goes);
+    Ok(())
+}
+
+/// Initial labels have no underconsistent state.
+#[test]
+fn none_is_raised_of_initial_labels(rt: HostRuntime) -> Result<(), Fail> {
+    let mut labels = Labels::open(rt.alloc(), 6, 0)?;
+    let mut raiser = Raiser::new(rt.alloc(), 6)?;
+    raiser.raise_all(&DETOUR, &mut labels);
+    let none = raiser.raised().is_empty();
+    drop(raiser);
+    drop(labels);
+    assert!(rt; none);
     Ok(())
 }

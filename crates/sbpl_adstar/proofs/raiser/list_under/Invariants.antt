@@ -1,6 +1,6 @@
-use Rattle.std.proofs.Common.{◌≡◌, vec_capacity}
+use Rattle.std.proofs.Common.{◌≡◌, slice_index, vec_capacity}
 use Rattle.sbpl_adstar.proofs.Listing.{IsListing}
 use Rattle.sbpl_adstar.proofs.raiser.list_under.Given as goal
 
 abbrev pub invariant-loop-s : goal.invariant-loop-s
-invariant-loop-s l = IsListing l.labels l.states l.s-index l.list.items × (vec_capacity l.list ≡ vec_capacity l.fn.list)
+invariant-loop-s l = IsListing l.labels (slice_index l.states) l.s-index l.list.items × (vec_capacity l.list ≡ vec_capacity l.fn.list)

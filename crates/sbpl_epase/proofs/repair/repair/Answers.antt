@@ -6,7 +6,7 @@ use Rattle.sbpl_epase.proofs.repair.repair.Goals as goal
 
 pub note_over-requires-clause-same_states : goal.note_over-requires-clause-same_states
 note_over-requires-clause-same_states g c =
-    c.requires.over.states ∙ sym (c.raise_all.ensures.states ∙ c.change_labels.ensures.repaired.repaired.same_states)
+    c.requires.over.states ∙ sym (c.raise_touched.ensures.raised.states ∙ c.change_labels.ensures.repaired.repaired.same_states)
 
 pub note_over-requires-clause-inside : goal.note_over-requires-clause-inside
 note_over-requires-clause-inside g c =
@@ -14,20 +14,20 @@ note_over-requires-clause-inside g c =
     omega (
       arith,
       c.requires.changeable.inside k d within,
-      c.raise_all.ensures.states,
+      c.raise_touched.ensures.raised.states,
       c.change_labels.ensures.repaired.repaired.same_states,
     )
 
 pub note_over-requires-2-clause-same_states : goal.note_over-requires-2-clause-same_states
 note_over-requires-2-clause-same_states g c =
     c.note_over.ensures.states ∙ c.requires.over.states
-    ∙ sym (c.raise_all.ensures.states ∙ c.change_labels.ensures.repaired.repaired.same_states)
+    ∙ sym (c.raise_touched.ensures.raised.states ∙ c.change_labels.ensures.repaired.repaired.same_states)
 
 pub note_over-requires-2-clause-inside : goal.note_over-requires-2-clause-inside
 note_over-requires-2-clause-inside g c =
-    let new = c.raise_all.new.labels in
-    let inside : All (λ (s : ℕ). s < states_of new) c.raise_all.new.self.raised =
-    λ k d within. omega (arith, c.raise_all.ensures.inside k d within, c.raise_all.ensures.states) in
+    let new = c.raise_touched.new.labels in
+    let inside : All (λ (s : ℕ). s < states_of new) c.raise_touched.new.self.raised =
+    λ k d within. omega (arith, c.raise_touched.ensures.raised.inside k d within, c.raise_touched.ensures.raised.states) in
     subst (λ (l : List ℕ). All (λ (s : ℕ). s < states_of new) l) (sym c.raised.ensures.value) inside
 
 -- an overconsistent state was one before, or is noted now
@@ -38,7 +38,7 @@ returns-clause-over g c =
     record {
       states =
           c.note_over-2.ensures.states ∙ c.note_over.ensures.states ∙ c.requires.over.states
-          ∙ sym (c.raise_all.ensures.states ∙ c.change_labels.ensures.repaired.repaired.same_states);
+          ∙ sym (c.raise_touched.ensures.raised.states ∙ c.change_labels.ensures.repaired.repaired.same_states);
       over = λ s inside over.
           ⊎_elim
           (λ (before : IsOver mid s).
@@ -46,11 +46,11 @@ returns-clause-over g c =
           (⊎_elim
           (λ (was : IsOver old s).
           c.note_over.ensures.kept s (c.requires.over.over s
-          (omega (arith, inside, c.raise_all.ensures.states, c.change_labels.ensures.repaired.repaired.same_states))
+          (omega (arith, inside, c.raise_touched.ensures.raised.states, c.change_labels.ensures.repaired.repaired.same_states))
           was))
           (λ (touched : Contains c.args.touched.now s). c.note_over.ensures.noted s touched over)
           (c.change_labels.ensures.over s before)))
-          (λ (raised : Contains c.raise_all.new.self.raised s).
+          (λ (raised : Contains c.raise_touched.new.self.raised s).
           c.note_over-2.ensures.noted s (rw c.raised.ensures.value raised) over)
-          (c.raise_all.ensures.over s over);
+          (c.raise_touched.ensures.raised.over s over);
     }
