@@ -1,6 +1,6 @@
 //! What the lock guards.
 
-ghost use Rattle.std.specs.Prelude.{◌≡◌, ◌+◌, ◌<◌, [], ◌++◌, IfOk, IsFalse, OnErr, map, sum_by, vec_len};
+ghost use Rattle.std.specs.Prelude.{◌≡◌, ◌+◌, ◌<◌, [], ◌++◌, IfOk, IsFalse, IsTrue, OnErr, length, map, sum_by, vec_len};
 ghost use Rattle.sbpl_postings.specs.sbpl_frontier_core.Answers.{OpensTo};
 ghost use Rattle.sbpl_postings.specs.Kept.{AreBrought};
 ghost use Rattle.sbpl_postings.specs.Posts.{of};
@@ -76,12 +76,7 @@ impl<'g, G: Graph, H: Guide, N: Pass, U: Past, M: Second, L: Lined> Locked<'g, G
         ensures sender { sender.new ≡ sender.old }
         ensures brought { AreBrought (ended_with self.new.line sender.old) [] }
     {
-        'postings: for _ in rt.forever() {
-            if !self.receive(rt, queue, sender) {
-                return;
-            }
-        }
-        unreachable!()
+        'postings: while self.receive(rt, queue, sender) {}
     }
 
     /// Takes all judgements out of the line that are in it, and applies them, once the senders of all seats have ended.
@@ -105,6 +100,8 @@ impl<'g, G: Graph, H: Guide, N: Pass, U: Past, M: Second, L: Lined> Locked<'g, G
         ensures ended { self.new.line.ended ≡ self.old.line.ended }
         ensures sender { sender.new ≡ sender.old }
         ensures brought { IsFalse result → AreBrought (ended_with self.new.line sender.old) [] }
+        // So all are soon received: each is of an arc that was out.
+        ensures fewer { IsTrue result → length self.new.book.frontier.out < length self.old.book.frontier.out }
     {
         let Some(posting) = self.drain.pop(rt, queue, sender) else {
             return false;

@@ -302,6 +302,7 @@ impl<'g, G: Graph, H: Guide, N: Pass, U: Past> CoreOf<'g, G, H, N, U> {
             (record { ticket = judged.number; state = judged.state; arc = judged.arc }) }
         ensures posted { IsPosting N.query.network self.old.frontier
             (record { ticket = judged.number; state = judged.state; arc = judged.arc }) judged.cost self.new.frontier }
+        ensures fewer { length self.new.frontier.out < length self.old.frontier.out }
         ensures journal { self.new.journal ≡ self.old.journal ++ Posted judged.number judged.cost ∷ [] }
     {
         events_keep();

@@ -1,9 +1,9 @@
-use Rattle.std.proofs.Common.{arith}
+use Rattle.std.proofs.Common.{arith, length, ap}
 use Rattle.sbpl_frontier_rules.specs.sbpl_serial.Marked.{closed_at}
 use Rattle.sbpl_frontier_rules.proofs.Fitting.{fit_more}
 use Rattle.sbpl_frontier_core.proofs.Parting.{head_lowered, parts_kept, parts_posted, posting_of}
 use Rattle.sbpl_frontier_core.proofs.Placing.{relaxed_unplaced}
-use Rattle.sbpl_frontier_core.proofs.Replaying.{opened_out}
+use Rattle.sbpl_frontier_core.proofs.Replaying.{fewer_without, opened_out}
 use Rattle.sbpl_frontier_core.proofs.frontier.CoreOf.apply.Goals as goal
 
 pub lower_head-head-requires-clause-state : goal.lower_head-head-requires-clause-state
@@ -81,3 +81,14 @@ returns-clause-posted g c =
       state = c.args.judged.state;
       arc = c.args.judged.arc;
     }) c.args.judged.cost c.lower_head-head.result out c.args.judged.judged relaxed c.take_back.ensures.out)
+
+pub returns-clause-fewer : goal.returns-clause-fewer
+returns-clause-fewer g c =
+    let inside = c.self.inside in
+    let out = rw (← c.self.view_is) at c.requires.out in
+    rw (← c.self.view_is) (omega (
+      arith,
+      ap length c.take_back.ensures.out,
+      fewer_without inside.out.items
+          (record { ticket = c.args.judged.number; state = c.args.judged.state; arc = c.args.judged.arc }) out,
+    ))
