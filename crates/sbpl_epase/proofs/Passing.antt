@@ -29,6 +29,7 @@ use Rattle.sbpl_frontier.specs.sbpl_frontier_rules.Laws.{MayBegin, OpensOnce, Se
 use Rattle.sbpl_frontier.specs.sbpl_frontier_rules.Passes.{ArePass, CountsAreFree, OpenedByEvents}
 use Rattle.sbpl_frontier.specs.sbpl_frontier_rules.Passes.{StartStaysFresh, counted_with, opened_by}
 use Rattle.sbpl_frontier.specs.sbpl_frontier_core.Log.{Log}
+use Rattle.sbpl_frontier.specs.sbpl_frontier_core.Seats.{AreTakenBelow}
 use Rattle.sbpl_frontier.specs.sbpl_frontier_core.Passes.{EndsSo, IsPassFinished}
 use Rattle.sbpl_epase.specs.Planner.{epase}
 
@@ -175,15 +176,16 @@ module _ (q : Query) (m : Marks) (before : Counts) (events : List Event) (first 
   )
 
   pub passed : (end : PassEnd) (old new : State Event) → old.labels ≡ m → new.labels ≡ last.labels → new.actions ≡ events
-      → new.goal ≡ old.goal → new.raised ≡ old.raised → old.goal ≡ q.goal
-      → (end ≡ Rest → IsRest q last) → (end ≡ Spent → IsOutOfBudget q last)
+      → new.goal ≡ old.goal → new.workers ≡ old.workers → AreTakenBelow old.workers events → new.raised ≡ old.raised
+      → old.goal ≡ q.goal → (end ≡ Rest → IsRest q last) → (end ≡ Spent → IsOutOfBudget q last)
       → IsPassed epase q old new before last.counts end
-  passed end old new from to noted same_goal same_raised goal rest spent = record {
+  passed end old new from to noted same_goal same_workers seats same_raised goal rest spent = record {
     leads = rw (from, to, noted) are_pass;
     rests = λ is. rw (to, noted) (rest_same by_events q last.labels (rest is).rest);
     goes_on = λ is.
         let out = spent is in
         rw (to, noted) (out.state, open_same by_events q last.labels out.state out.is_open, out.below_goal);
+    seated = rw noted seats;
     is_spent = λ is. (spent is).spent;
     counted = rw noted opens.counted;
     each = λ s. rw noted (opens.each s);
@@ -198,6 +200,7 @@ module _ (q : Query) (m : Marks) (before : Counts) (events : List Event) (first 
     start = rw (to, from) opens.start;
     states = rw (to, from) opens.states;
     goal = same_goal;
+    workers = same_workers;
     raised = same_raised;
     fresh = λ was.
         let from_start : g_of first.labels first.labels.start ≡ 0 = rw is_first.labels begins.labels.from_start in
@@ -226,9 +229,9 @@ module _ (q : Query) (m left : Marks) (before after : Counts) (keeps : Bool) (lo
     (once : EachOpensOnce) (free : CountsAreFree) (marked : OpenedByEvents) (fresh : StartStaysFresh)
     (small : (s : ℕ) → s < q.network.states → q.guide s < 2 ^ 55) where
   pub finished_passed : (old new : State Event) → old.labels ≡ m → new.labels ≡ left → new.actions ≡ log.events
-      → new.goal ≡ old.goal → new.raised ≡ old.raised → old.goal ≡ q.goal
-      → IsPassed epase q old new before after end
-  finished_passed old new from to noted same_goal same_raised goal =
+      → new.goal ≡ old.goal → new.workers ≡ old.workers → AreTakenBelow old.workers log.events → new.raised ≡ old.raised
+      → old.goal ≡ q.goal → IsPassed epase q old new before after end
+  finished_passed old new from to noted same_goal same_workers seats same_raised goal =
       let f = finished.frontier in
       let is = finished.finished in
       let replay = is.replay in
@@ -236,7 +239,7 @@ module _ (q : Query) (m left : Marks) (before after : Counts) (keeps : Bool) (lo
       passed q m before log.events replay.first f lawful begins replay.begins replay.leads
       (idle_of q end f finished.ends)
       first_kept events_keep idle_exact settled once free marked fresh small end old new from
-      (to ∙ is.labels_are) noted same_goal same_raised goal
+      (to ∙ is.labels_are) noted same_goal same_workers seats same_raised goal
       (rest_of q end f finished.ends) (spent_of q end f finished.ends)
       in
       subst (λ (c : Counts). IsPassed epase q old new before c end) (sym is.counts_are) by

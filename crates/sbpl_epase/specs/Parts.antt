@@ -20,13 +20,19 @@ abbrev pub space_in : Option Waiting → Waiting
 space_in None = record { marks = []; queue = record { keys = [] }; expanded = [] }
 space_in (Some space) = space
 
--- the labels, the goal, the events of the last pass, whether they were kept, and the states that were raised last
-abbrev pub search_of : Option Marks → ℕ → Log → (raised : List ℕ) → State Event
-search_of labels goal journal raised = record { labels = labels_in labels; goal = goal; actions = journal.events; kept = journal.keeps; raised = raised }
+-- one worker or more, and 64 at most
+pub record IsCrew (workers : ℕ) : Type 0 where
+  pub some : 1 ≤ workers
+  pub few : workers ≤ 64
+
+-- the workers, the labels, the goal, the events of the last pass, whether they were kept, and the states that were raised last
+abbrev pub search_of : (workers : ℕ) → Option Marks → (goal : ℕ) → Log → (raised : List ℕ) → State Event
+search_of workers labels goal journal raised = record { workers = workers; labels = labels_in labels; goal = goal; actions = journal.events; kept = journal.keeps; raised = raised }
 
 -- The labels and the memory of a pass are there. No state is underconsistent, and each overconsistent one is where the next pass
--- looks for it. The goal is a state, this many states were expanded in the last pass, and there is room to raise each state once.
-pub record AreEpaseParts (labels : Option Marks) (space : Option Waiting) (goal : ℕ) (journal : Log) (expanded : ℕ) (raiser : Raising) : Type 0 where
+-- looks for it. There are 1 to 64 workers, the goal is a state, this many states were expanded in the last pass, and there is room to raise each state once.
+pub record AreEpaseParts (workers : ℕ) (labels : Option Marks) (space : Option Waiting) (goal : ℕ) (journal : Log) (expanded : ℕ) (raiser : Raising) : Type 0 where
+  pub crew : IsCrew workers
   pub there : IsSome labels
   pub room : IsSome space
   pub over : HoldsOver (space_in space) (labels_in labels)

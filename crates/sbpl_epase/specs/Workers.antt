@@ -1,12 +1,10 @@
 -- What workers leave.
-use Rattle.std.specs.Prelude.{◌≡◌, ℕ, List, [], ◌∷◌, length}
-use Rattle.std.specs.List.{All}
+use Rattle.std.specs.Prelude.{List, [], ◌∷◌}
 use Rattle.sbpl_adstar.specs.sbpl_labels.Counts.{Counts}
 use Rattle.sbpl_adstar.specs.sbpl_labels.Marks.{Marks}
 use Rattle.sbpl_adstar.specs.sbpl_labels.declared.pass_end.PassEnd.{PassEnd}
 use Rattle.sbpl_adstar.specs.sbpl_search.Query.{Query}
 use Rattle.sbpl_frontier.specs.sbpl_frontier_rules.declared.event.Event.{Event}
-use Rattle.sbpl_frontier.specs.sbpl_frontier_core.Longer.{IsLonger}
 use Rattle.sbpl_frontier.specs.sbpl_frontier_core.Passes.{EndsSo}
 use Rattle.sbpl_frontier.specs.Come.{HaveCome}
 use Rattle.sbpl_frontier.specs.Tally.{Tally}
@@ -22,17 +20,3 @@ pub record SawEnd (q : Query) (opening : Marks) (counts : Counts) (end : PassEnd
 -- the worker in this seat has ended, since it saw how the pass ends
 abbrev pub HasEnded : Query → Marks → Counts → Tally → Type 0
 HasEnded q opening counts seat = ∥ ((end : PassEnd) × SawEnd q opening counts end seat) ∥₁
-
--- Workers in this many seats have ended, each because it saw how the pass ends. The judgements in the journal are, of each of them,
--- those that it posted.
-pub record IsWorkOf (q : Query) (opening : Marks) (counts : Counts) (workers : ℕ) (journal : List Event) : Type 0 where
-  pub seats : List Tally
-  pub count : length seats ≡ workers
-  pub ended : All (HasEnded q opening counts) seats
-  pub come : HaveCome journal seats
-
--- the journal begins with the work of this many workers
-pub record BeginsWithWork (q : Query) (opening : Marks) (counts : Counts) (workers : ℕ) (journal : List Event) : Type 0 where
-  pub first : List Event
-  pub work : IsWorkOf q opening counts workers first
-  pub rest : IsLonger first journal

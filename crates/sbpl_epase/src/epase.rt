@@ -8,6 +8,7 @@ ghost use Rattle.sbpl_adstar.specs.sbpl_labels.Marks.{AreInitial, AreLabels, g_o
 ghost use Rattle.sbpl_frontier.specs.sbpl_frontier_rules.Journal.{openings};
 ghost use Rattle.sbpl_adstar.specs.sbpl_search.Changed.{IsChangeable};
 ghost use Rattle.sbpl_adstar.specs.sbpl_search.Ready.{AreReady, IsStartFresh};
+ghost use Rattle.sbpl_epase.specs.Parts.{IsCrew};
 ghost use Rattle.sbpl_epase.specs.Planner.{BeginsRaised};
 
 use crate::repair::repair;
@@ -21,8 +22,9 @@ use std::marker::Model;
 /// change of the graph the labels are repaired, and states are raised.
 #[derive(Drop)]
 pub struct Epase<F> {
-    /// What makes a pass.
+    /// What makes a pass, and by how many workers, 1 to 64.
     pub(crate) make: F,
+    pub(crate) workers: u32,
     /// The labels, and the memory of a pass: `None` only within a pass.
     pub(crate) labels: Option<Labels>,
     pub(crate) space: Option<Space>,
@@ -40,23 +42,25 @@ impl<F> Model for Epase<F> {
 
     ghost Value = { Seeker F };
 
-    ghost view = { λ a. record { make = a.make; search = search_of a.labels a.goal a.journal a.raiser.raised } };
+    ghost view = { λ a. record { make = a.make; search = search_of a.workers a.labels a.goal a.journal a.raiser.raised } };
 
-    ghost invariant = { λ a. AreEpaseParts a.labels a.space a.goal a.journal a.expanded a.raiser };
+    ghost invariant = { λ a. AreEpaseParts a.workers a.labels a.space a.goal a.journal a.expanded a.raiser };
 }
 
 impl<F> Epase<F> {
     /// A search from `start` to `goal` on a graph of this many states, before its first pass: its labels are initial. Its passes
-    /// are made by `make`.
+    /// are made by `make`, by 1 to 64 workers.
     pub fn open(
         alloc: Global,
         make: F,
+        workers: u32,
         states: u32,
         start: u32,
         goal: u32,
     ) -> Result<Epase<F>, NoMemory>
     where
         F: Drop,
+        requires crew { IsCrew workers }
         requires start { start < states }
         requires goal { goal < states }
         ensures opened { IfOk result (λ a. AreInitial a.search.labels states start) }
@@ -64,6 +68,7 @@ impl<F> Epase<F> {
             (λ a. (n : Network) (count : ℕ) → n.states ≡ states → AreReady n a.search.labels count) }
         ensures fresh { IfOk result (λ a. IsStartFresh a.search.labels) }
         ensures goal { IfOk result (λ a. a.search.goal ≡ goal) }
+        ensures workers { IfOk result (λ a. a.search.workers ≡ workers) }
         ensures none_raised { IfOk result (λ a. a.search.raised ≡ []) }
         ensures make { IfOk result (λ a. a.make ≡ make) }
     {
@@ -72,6 +77,7 @@ impl<F> Epase<F> {
         let raiser = Raiser::new(alloc, states)?;
         Ok(Epase {
             make,
+            workers,
             labels: Some(labels),
             space: Some(space),
             goal,
@@ -89,6 +95,7 @@ impl<F> Epase<F> {
         ensures fresh { IsStartFresh self.new.search.labels }
         ensures none_raised { self.new.search.raised ≡ [] }
         ensures goal { self.new.search.goal ≡ self.old.search.goal }
+        ensures workers { self.new.search.workers ≡ self.old.search.workers }
         ensures make { self.new.make ≡ self.old.make }
     {
         let start = self.labels().start();
@@ -105,6 +112,7 @@ impl<F> Epase<F> {
         ensures fresh { IsStartFresh self.new.search.labels }
         ensures none_raised { self.new.search.raised ≡ [] }
         ensures goal { self.new.search.goal ≡ self.old.search.goal }
+        ensures workers { self.new.search.workers ≡ self.old.search.workers }
         ensures make { self.new.make ≡ self.old.make }
     {
         if let (Some(labels), Some(space)) = (&mut self.labels, &mut self.space) {
@@ -131,6 +139,7 @@ impl<F> Epase<F> {
         ensures start { self.new.search.labels.start ≡ self.old.search.labels.start }
         ensures same_states { states_of self.new.search.labels ≡ states_of self.old.search.labels }
         ensures goal { self.new.search.goal ≡ self.old.search.goal }
+        ensures workers { self.new.search.workers ≡ self.old.search.workers }
         ensures make { self.new.make ≡ self.old.make }
     {
         if let (Some(labels), Some(space)) = (&mut self.labels, &mut self.space) {

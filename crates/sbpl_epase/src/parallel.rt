@@ -7,7 +7,6 @@ ghost use Rattle.sbpl_frontier.specs.sbpl_frontier_core.Book.{IsReplay};
 ghost use Rattle.sbpl_frontier.specs.sbpl_frontier_core.Passes.{EndsSo};
 ghost use Rattle.sbpl_frontier.specs.sbpl_frontier_core.Seats.{AreTakenBelow};
 ghost use Rattle.sbpl_epase.specs.Making.{CanPass, Leaves};
-ghost use Rattle.sbpl_epase.specs.Workers.{BeginsWithWork, IsWorkOf};
 
 use crate::crew::run_workers;
 use crate::{Gate, Passed};
@@ -48,8 +47,6 @@ pub fn parallel_pass<
     ensures replay { IfOk result (λ core. IsReplay N.query N.opening N.counts core.journal core.frontier) }
     // The workers sit in the seats from 0 upwards.
     ensures seats { IfOk result (λ core. AreTakenBelow workers core.journal) }
-    // Where there are several, each of them works until it sees how the pass ends.
-    ensures worked { 2 ≤ workers → IfOk result (λ core. BeginsWithWork N.query N.opening N.counts workers core.journal) }
 {
     match pass_of(rt, alloc, core, graph, workers, gate) {
         Ok((core, _end)) => {
@@ -83,7 +80,6 @@ fn pass_of<
     requires graph { G.network graph.now ≡ N.query.network }
     ensures ends { IfOk result (λ r. EndsSo N.query r.1 r.0.frontier) }
     ensures seats { IfOk result (λ r. AreTakenBelow workers r.0.journal) }
-    ensures worked { 2 ≤ workers → IfOk result (λ r. BeginsWithWork N.query N.opening N.counts workers r.0.journal) }
 {
     if workers == 1 {
         let _out = core.out();
@@ -129,7 +125,6 @@ fn share_as<
     requires takes { (takes.name ≡ M.takes) × (takes.parts ≡ M.parts) }
     requires claims { claims ≡ M.table }
     ensures out { IfOk result (λ core. core.frontier.out ≡ []) }
-    ensures work { IfOk result (λ core. IsWorkOf N.query N.opening N.counts workers core.journal) }
     ensures seats { IfOk result (λ core. AreTakenBelow workers core.journal) }
 {
     let line = match UnnamedQueue::<N, M>::new(alloc, workers) {
@@ -173,7 +168,6 @@ fn line_as<
     requires line { line ≡ L.line }
     requires room { line.slots ≡ workers }
     ensures out { IfOk result (λ core. core.frontier.out ≡ []) }
-    ensures work { IfOk result (λ core. IsWorkOf N.query N.opening N.counts workers core.journal) }
     ensures seats { IfOk result (λ core. AreTakenBelow workers core.journal) }
 {
     let (shared, seats) = Shared::<'g, G, H, N, U, M, L>::new(
@@ -207,17 +201,9 @@ pub fn parallel_pass_parts<
     eps: u32,
     keeps: bool,
 ) -> Result<Passed, Parts>
-    requires some { 1 ≤ workers }
-    requires few { workers ≤ 64 }
     requires can { CanPass (query (G.network graph.now) (H.distance guide.now) eps goal)
-        (H.guides guide.now (G.network graph.now) goal) parts }
-    ensures left { Leaves (query (G.network graph.now) (H.distance guide.now) eps goal) parts keeps result }
-    // The workers sit in the seats from 0 upwards.
-    ensures seats { IfOk result (λ passed. AreTakenBelow workers passed.journal.events) }
-    // Where there are several, each of them works until it sees how the pass ends.
-    ensures worked { 2 ≤ workers → IfOk result (λ passed. BeginsWithWork
-        (query (G.network graph.now) (H.distance guide.now) eps goal) parts.labels parts.budget workers
-        passed.journal.events) }
+        (H.guides guide.now (G.network graph.now) goal) workers parts }
+    ensures left { Leaves (query (G.network graph.now) (H.distance guide.now) eps goal) workers parts keeps result }
 {
     parts_as::<Brand, R, T, G, H>(
         rt, gate, workers, alloc, graph, guide, parts, goal, eps, keeps,
@@ -243,18 +229,13 @@ fn parts_as<
     eps: u32,
     keeps: bool,
 ) -> Result<Passed, Parts>
-    requires some { 1 ≤ workers }
-    requires few { workers ≤ 64 }
     requires query { query (G.network graph.now) (H.distance guide.now) eps goal ≡ N.query }
     requires labels { parts.labels ≡ N.opening }
     requires budget { parts.budget ≡ N.counts }
     requires keeps { keeps ≡ N.keeps }
     requires can { CanPass (query (G.network graph.now) (H.distance guide.now) eps goal)
-        (H.guides guide.now (G.network graph.now) goal) parts }
-    ensures left { Leaves N.query parts keeps result }
-    ensures seats { IfOk result (λ passed. AreTakenBelow workers passed.journal.events) }
-    ensures worked { 2 ≤ workers
-        → IfOk result (λ passed. BeginsWithWork N.query N.opening N.counts workers passed.journal.events) }
+        (H.guides guide.now (G.network graph.now) goal) workers parts }
+    ensures left { Leaves N.query workers parts keeps result }
 {
     nothing_begun(graph, guide, &parts.labels, goal, eps, &parts.budget);
     let core = CoreOf::<'_, G, H, N, Unseen>::open_parts(

@@ -13,7 +13,7 @@ use std::mem;
 impl<
     G: Graph,
     H: Guide,
-    F: Fn(Global, &G, &H, Parts, u32, u32, bool) -> Result<Passed, Parts> + Drop,
+    F: Fn(Global, &G, &H, u32, Parts, u32, u32, bool) -> Result<Passed, Parts> + Drop,
 > Search<G, H> for Epase<F> {
     type Action = Event;
 
@@ -48,7 +48,15 @@ impl<
             space,
         };
         match pass_by(
-            &self.make, alloc, graph, guide, parts, self.goal, eps, traced,
+            &self.make,
+            alloc,
+            graph,
+            guide,
+            self.workers,
+            parts,
+            self.goal,
+            eps,
+            traced,
         ) {
             Ok(passed) => {
                 let left = passed.parts;

@@ -43,7 +43,7 @@ use Rattle.sbpl_promises.specs.sbpl_job.declared.job.SearchJob.{SearchJob}
 use Rattle.sbpl_promises.specs.sbpl_report.declared.record.PathStep.{PathStep}
 use Rattle.sbpl_promises.specs.sbpl_report.declared.record.PathRecord.{PathRecord}
 use Rattle.sbpl_promises.specs.sbpl_report.declared.record.PlanRecord.{PlanRecord}
-use Rattle.sbpl_promises.specs.Asked.{PlannerOn, Search, ask_of, from_by, is_determined, planner_for, planner_on, search_of, to_by}
+use Rattle.sbpl_promises.specs.Asked.{PlannerOn, Search, ask_of, from_by, is_determined, planner_for, planner_on, search_of, to_by, workers_of}
 use Rattle.sbpl_promises.specs.Sites.{Leads, Site, searched_on, start_after}
 use Rattle.sbpl_promises.specs.sbpl_job.Jobs.{may_move}
 use Rattle.sbpl_promises.specs.Headline.{AreRecords, AreSteps, Carried, IsMarked, IsPlanOf, IsSearched, IsTurned}
@@ -297,7 +297,7 @@ module _ {W : Type 0} (on : Site W) (Alike : W → W → Type 0) (alike : AreAli
       let from : ℕ = from_by by start goal in
       let to : ℕ = to_by by start goal in
       let ask : Ask = ask_of how outputs in
-      let q : Inquiry = record { network = n; guide = x.guide; goal = to; ask = ask } in
+      let q : Inquiry = record { network = n; guide = x.guide; goal = to; workers = workers_of how; ask = ask } in
       let begun =
       one_begun on Alike alike w v both_alike initial by.means law.beginnings back goes m from before x.begun y.begun
       x.raised y.raised made same begins_alike x.begins y.begins in
@@ -305,7 +305,7 @@ module _ {W : Type 0} (on : Site W) (Alike : W → W → Type 0) (alike : AreAli
       goes.guides here there to x.guide y.guide a same x.is_guide y.is_guide in
       let guided : AreAlikeGuides (states_of x.begun) x.guide y.guide =
       λ s inside. guides s (subst (λ (k : ℕ). s < k) begun.states inside) in
-      let passes : ArePasses by.means (record { network = n; guide = y.guide; goal = to; ask = ask }) how.first x.begun
+      let passes : ArePasses by.means (record { network = n; guide = y.guide; goal = to; workers = workers_of how; ask = ask }) how.first x.begun
       y.recorded other.labels y.spent = rw (one_network, begun.same) y.passes in
       let one =
       law.plans q y.guide how.budget (expanded_before before) how.first x.begun carried.labels other.labels x.recorded

@@ -58,7 +58,7 @@ module _ {Action : Type 0} (means : Meaning Action) {n : Network} {h : ℕ → �
   module _ {ask : Ask} {expanded : ℕ} {found : Found} {trace : List Action} {arcs : List ℕ}
       (counted : expanded ≡ means.expansions new.actions) (told : trace ≡ (if ask.traced then new.actions else [])) where
     to_own_goal : WalkFinds n h old.goal new.labels arcs found
-        → IsIteration means (inquiry_of n h old.goal ask) eps old new before after arcs spent
+        → IsIteration means (inquiry_of n h old.goal old.workers ask) eps old new before after arcs spent
         (record { inflation = eps; expanded = expanded; found = found; trace = trace })
     to_own_goal finds = record {
       pass = record {
@@ -66,6 +66,7 @@ module _ {Action : Type 0} (means : Meaning Action) {n : Network} {h : ℕ → �
         actions = new.actions;
         leads = passed.leads;
         ends = ends_pass spent refl;
+        seated = passed.seated;
         expanded = counted;
         told = told;
         arcs = arcs;
@@ -81,6 +82,7 @@ module _ {Action : Type 0} (means : Meaning Action) {n : Network} {h : ℕ → �
         start = passed.start;
         states = passed.states;
         same_goal = passed.goal;
+        same_workers = passed.workers;
       };
       supported = passed.supported;
       traced = (counted, told);
@@ -94,11 +96,14 @@ module _ {Action : Type 0} (means : Meaning Action) {n : Network} {h : ℕ → �
           (passed.tight (rested is) one) finds;
     }
 
-    -- where the goal is that of the plan, and the walk was to the goal of the search
-    pub iteration_of : {goal : ℕ} → old.goal ≡ goal → WalkFinds n h new.goal new.labels arcs found
-        → IsIteration means (inquiry_of n h goal ask) eps old new before after arcs spent
+    -- where the goal and the workers are those of the plan, and the walk was to the goal of the search
+    pub iteration_of : {goal workers : ℕ} → old.goal ≡ goal → old.workers ≡ workers
+        → WalkFinds n h new.goal new.labels arcs found
+        → IsIteration means (inquiry_of n h goal workers ask) eps old new before after arcs spent
         (record { inflation = eps; expanded = expanded; found = found; trace = trace })
-    iteration_of {goal} is finds =
-        subst (λ (t : ℕ). IsIteration means (inquiry_of n h t ask) eps old new before after arcs spent
+    iteration_of {goal} {workers} is by finds =
+        subst (λ (t : ℕ). IsIteration means (inquiry_of n h t workers ask) eps old new before after arcs spent
         (record { inflation = eps; expanded = expanded; found = found; trace = trace })) is
-        (to_own_goal (subst (λ (t : ℕ). WalkFinds n h t new.labels arcs found) passed.goal finds))
+        (subst (λ (w : ℕ). IsIteration means (inquiry_of n h old.goal w ask) eps old new before after arcs spent
+        (record { inflation = eps; expanded = expanded; found = found; trace = trace })) by
+        (to_own_goal (subst (λ (t : ℕ). WalkFinds n h t new.labels arcs found) passed.goal finds)))

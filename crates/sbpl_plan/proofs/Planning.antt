@@ -92,6 +92,7 @@ ready_twice means n a b c old mid new before between after sum one two = record 
   start = two.start ∙ one.start;
   states = two.states ∙ one.states;
   same_goal = two.same_goal ∙ one.same_goal;
+  same_workers = two.same_workers ∙ one.same_workers;
 }
 
 -- passes were made, none of them the last, and the next one has this inflation
@@ -125,6 +126,7 @@ module _ {Action : Type 0} (means : Meaning Action) {q : Inquiry} {old : State A
       start = refl;
       states = refl;
       same_goal = refl;
+      same_workers = refl;
     };
     many = omega arith;
     spread = omega arith;
@@ -263,5 +265,6 @@ part_of_none means q eps old before Told told ready fresh = record {
     start = refl;
     states = refl;
     same_goal = refl;
+    same_workers = refl;
   };
 }

@@ -185,6 +185,7 @@ module _ {Action : Type 0} (means : Meaning Action) (laws : AreDetermined means)
         actions = is.actions;
         leads = laws.guided (query_at q eps) h old new is.actions alike is.leads;
         ends = guided_end eps is.actions new spent after is.ends;
+        seated = is.seated;
         expanded = is.expanded;
         told = is.told;
         arcs = is.arcs;

@@ -11,15 +11,16 @@ use Rattle.sbpl_plan.specs.declared.passes.PassRecord.{PassRecord}
 use Rattle.sbpl_plan.specs.Asked.{lowered}
 use Rattle.sbpl_plan.specs.Looking.{IsEnough, WalkFinds}
 
--- what stays the same over a plan: the graph, the guide, the goal, and what is asked
+-- what stays the same over a plan: the graph, the guide, the goal, how many workers make its passes, and what is asked
 pub record Inquiry : Type 0 where
   pub network : Network
   pub guide : ℕ → ℕ
   pub goal : ℕ
+  pub workers : ℕ
   pub ask : Ask
 
-abbrev pub inquiry_of : Network → (ℕ → ℕ) → ℕ → Ask → Inquiry
-inquiry_of n h goal ask = record { network = n; guide = h; goal = goal; ask = ask }
+abbrev pub inquiry_of : Network → (ℕ → ℕ) → (goal workers : ℕ) → Ask → Inquiry
+inquiry_of n h goal workers ask = record { network = n; guide = h; goal = goal; workers = workers; ask = ask }
 
 -- what stays the same over a pass of this inflation
 abbrev pub query_at : Inquiry → ℕ → Query
@@ -29,12 +30,13 @@ query_at q eps = query q.network q.guide eps q.goal
 abbrev pub EndsPass : {Action : Type 0} → Meaning Action → Query → List Action → Marks → Bool → Type 0
 EndsPass means q actions m spent = MatchBool spent (means.goes_on q actions m) (means.rests q actions m)
 
--- a pass of this inflation leads from the old labels to the new ones, and this is its record
+-- a pass of this inflation, made by these workers, leads from the old labels to the new ones, and this is its record
 pub record IsPass {Action : Type 0} (means : Meaning Action) (q : Inquiry) (eps : ℕ) (old new : Marks) (spent : Bool) (p : PassRecord Action) : Type 0 where
   pub inflation : p.inflation ≡ eps
   pub actions : List Action
   pub leads : means.leads (query_at q eps) actions old new
   pub ends : EndsPass means (query_at q eps) actions new spent
+  pub seated : means.seated q.workers actions
   pub expanded : p.expanded ≡ means.expansions actions
   pub told : p.trace ≡ (if q.ask.traced then actions else [])
   pub arcs : List ℕ

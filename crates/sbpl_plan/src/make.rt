@@ -38,11 +38,11 @@ pub fn plan<G: Graph, H: Guide, S: Search<G, H>, O: Observer>(
     requires observed { MOST_PASSES ≤ O.room observer.old }
     ensures planned { IfOk result (IsPlanned S.meaning
         (inquiry_of (G.network inquiry.now.graph.now) (H.distance inquiry.now.guide.now)
-        (S.state search.old).goal inquiry.now.ask.now)
+        (S.state search.old).goal (S.state search.old).workers inquiry.now.ask.now)
         (S.state search.old) (S.state search.new) budget.old budget.new) }
     ensures memory { OnErr result (RunsOutOfMemory S.meaning
         (inquiry_of (G.network inquiry.now.graph.now) (H.distance inquiry.now.guide.now)
-        (S.state search.old).goal inquiry.now.ask.now)
+        (S.state search.old).goal (S.state search.old).workers inquiry.now.ask.now)
         inquiry.now.ask.now.first (S.state search.old) (S.state search.new) budget.old budget.new
         (λ ps. AreTold O.told 0 ps observer.old observer.new)) }
     ensures told { IfOk result (λ r. AreTold O.told 0 r.passes observer.old observer.new) }

@@ -19,7 +19,7 @@ use Rattle.sbpl_worlds.specs.sbpl_replan.Replanning.{Standing, StandsOutOfMemory
 use Rattle.sbpl_worlds.specs.sbpl_job.declared.job.Outputs.{Outputs}
 use Rattle.sbpl_worlds.specs.sbpl_job.declared.job.SearchJob.{SearchJob}
 use Rattle.sbpl_worlds.specs.sbpl_report.declared.record.TraceLine.{TraceLine}
-use Rattle.sbpl_worlds.specs.sbpl_promises.Asked.{PlannerOn, ask_of, from_by, to_by}
+use Rattle.sbpl_worlds.specs.sbpl_promises.Asked.{PlannerOn, ask_of, from_by, to_by, workers_of}
 use Rattle.sbpl_worlds.specs.sbpl_promises.Headline.{Begins, Carried}
 use Rattle.sbpl_plans.specs.Planning.{IsPublishedInPart}
 use Rattle.sbpl_worlds.specs.sbpl_promises.Published.{Entry, founds, with_paths}
@@ -105,11 +105,11 @@ module _ {W : Type 0} (by : PlannerOn W) (w : W) (guide : ℕ → ℕ) (start go
   pub broken_by : (old : Standing by.Action) (asked : Ask) (left : Marks) (ps : List (PassRecord by.Action))
       → by.on.says w (to_by by start goal) guide
       → Begins by.means by.on w (from_by by start goal) before old.search.labels old.search.raised
-      → asked ≡ ask_of how outputs → old.search.goal ≡ to_by by start goal
-      → AreFirstPasses by.means (inquiry_of (by.on.network w) guide old.search.goal asked) asked.first
+      → asked ≡ ask_of how outputs → old.search.goal ≡ to_by by start goal → old.search.workers ≡ workers_of how
+      → AreFirstPasses by.means (inquiry_of (by.on.network w) guide old.search.goal old.search.workers asked) asked.first
       old.search.labels ps left
       → shown ≡ with_paths log k 0 (founds ps) → IsPublishedInPart by w how outputs start goal k log shown before
-  broken_by old asked left ps is_guide begins same to made shown_is = record {
+  broken_by old asked left ps is_guide begins same to by_workers made shown_is = record {
     found = founds ps;
     broken = inr (record {
       guide = guide;
@@ -121,9 +121,11 @@ module _ {W : Type 0} (by : PlannerOn W) (w : W) (guide : ℕ → ℕ) (start go
       recorded = ps;
       passes =
           subst (λ (a : Ask). AreFirstPasses by.means (inquiry_of (by.on.network w) guide
-          (to_by by start goal) a) a.first old.search.labels ps left) same
-          (subst (λ (t : ℕ). AreFirstPasses by.means (inquiry_of (by.on.network w) guide t asked) asked.first
-          old.search.labels ps left) to made);
+          (to_by by start goal) (workers_of how) a) a.first old.search.labels ps left) same
+          (subst (λ (k : ℕ). AreFirstPasses by.means (inquiry_of (by.on.network w) guide (to_by by start goal) k asked)
+          asked.first old.search.labels ps left) by_workers
+          (subst (λ (t : ℕ). AreFirstPasses by.means (inquiry_of (by.on.network w) guide t old.search.workers asked)
+          asked.first old.search.labels ps left) to made));
       found_is = refl;
     });
     shown_is = shown_is;
@@ -133,13 +135,13 @@ module _ {W : Type 0} (by : PlannerOn W) (w : W) (guide : ℕ → ℕ) (start go
   pub stands_broken : (Ready : Type 0) (old new : Standing by.Action) (asked : Ask)
       → by.on.says w (to_by by start goal) guide
       → Begins by.means by.on w (from_by by start goal) before old.search.labels old.search.raised
-      → asked ≡ ask_of how outputs → old.search.goal ≡ to_by by start goal
+      → asked ≡ ask_of how outputs → old.search.goal ≡ to_by by start goal → old.search.workers ≡ workers_of how
       → StandsOutOfMemory by.means (inquiry (by.on.network w) guide old asked) Ready (λ ps.
       shown ≡ with_paths log k 0 (founds ps)) old new → IsPublishedInPart by w how outputs start goal k log shown before
-  stands_broken Ready old new asked is_guide begins same to (inl cut) =
-      broken_by old asked new.search.labels cut.part.passes is_guide begins same to cut.part.made cut.part.told
-  stands_broken Ready old new asked is_guide begins same to (inr cut) =
-      broken_by old asked cut.mid.labels cut.part.passes is_guide begins same to cut.part.made cut.part.told
+  stands_broken Ready old new asked is_guide begins same to by_workers (inl cut) =
+      broken_by old asked new.search.labels cut.part.passes is_guide begins same to by_workers cut.part.made cut.part.told
+  stands_broken Ready old new asked is_guide begins same to by_workers (inr cut) =
+      broken_by old asked cut.mid.labels cut.part.passes is_guide begins same to by_workers cut.part.made cut.part.told
 
 -- before the first pass nothing was published
 pub none_published : {W : Type 0} {by : PlannerOn W} {w : W} {start goal k : ℕ} {how : SearchJob} {outputs : Outputs}

@@ -285,6 +285,7 @@ module _ {W : Type 0} {plans : Plans W} where
                   ∙ from_stays by.on.reporting.back start next_start goal still;
               to_is = ap (λ (x : State by.Action). x.goal) aimed.search;
             };
+            workers_are = ap (λ (x : State by.Action). x.workers) aimed.search ∙ stays.workers ∙ set.workers_are;
             budget_is = ap (λ (n : Counts). n.per_plan) aimed.counts ∙ stays.per_plan ∙ set.budget_is;
           };
           before = Some (carried_of (by.on.cells.map now) s);

@@ -11,25 +11,28 @@ use Rattle.sbpl_worlds.specs.sbpl_labels.Marks.{AreInitial}
 use Rattle.sbpl_worlds.specs.sbpl_search.Meaning.{Meaning}
 use Rattle.sbpl_worlds.specs.sbpl_search.Ready.{IsStartFresh}
 use Rattle.sbpl_worlds.specs.sbpl_search.State.{State}
-use Rattle.sbpl_worlds.specs.sbpl_promises.Asked.{PlannerOn}
+use Rattle.sbpl_worlds.specs.sbpl_promises.Asked.{PlannerOn, workers_of}
 use Rattle.sbpl_worlds.specs.sbpl_promises.Sites.{Site, from_on, to_on}
 use Rattle.sbpl_worlds.specs.sbpl_plan.declared.found.Found.{Found}
 use Rattle.sbpl_worlds.specs.sbpl_promises.Headline.{Begins, Carried, IsBrokenOff, IsPlanOf, expanded_before}
 use Rattle.sbpl_worlds.specs.sbpl_promises.Published.{Entry, with_paths, with_plan}
 use Rattle.sbpl_worlds.specs.sbpl_promises.Writing.{AreAppended, DeskState, EndsIn, Stays, Write}
 
--- a search that has made no pass yet, in a world of a site, for plans from the start to the goal
-pub record IsNewSearch {Action W : Type 0} (means : Meaning Action) (on : Site W) (w : W) (start goal : ℕ) (s : State Action)
-    : Type 0 where
+-- a search that has made no pass yet, in a world of a site, for plans from the start to the goal, with as many workers as are
+-- asked for
+pub record IsNewSearch {Action W : Type 0} (means : Meaning Action) (on : Site W) (w : W) (how : SearchJob) (start goal : ℕ)
+    (s : State Action) : Type 0 where
   pub initial : AreInitial s.labels (on.network w).states (from_on on start goal)
   pub none_raised : s.raised ≡ []
   pub ready : means.ready (on.network w) s.labels 0
   pub to_goal : s.goal ≡ to_on on start goal
+  pub workers_are : s.workers ≡ workers_of how
   pub fresh : IsStartFresh s.labels
 
--- plans on a site are searched between the start and the goal, with the budget that is asked
+-- plans on a site are searched between the start and the goal, by as many workers and with the budget that are asked for
 pub record IsSetFor {Action W : Type 0} (on : Site W) (how : SearchJob) (start goal : ℕ) (s : Standing Action) : Type 0 where
   pub between : GoesBetween (from_on on start goal) (to_on on start goal) s
+  pub workers_are : s.search.workers ≡ workers_of how
   pub budget_is : s.counts.per_plan ≡ how.budget
 
 -- what the last plan on a map leaves to the next

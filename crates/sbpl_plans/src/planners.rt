@@ -60,19 +60,18 @@ where
         },
         Planner::Epase => {
             let rt = live.rt;
-            let workers = task.how.workers;
-            let make = move |alloc: Global, graph: &W, guide: &W::Best, parts: Parts, goal: u32, eps: u32, keeps: bool|
-                requires some { 1 ≤ workers }
-                requires few { workers ≤ 64 }
+            let make = move |alloc: Global, graph: &W, guide: &W::Best, workers: u32, parts: Parts, goal: u32, eps: u32,
+                keeps: bool|
                 requires can { CanPass (query (W.network graph.now) (W.Best.distance guide.now) eps goal)
-                    (W.Best.guides guide.now (W.network graph.now) goal) parts }
-                ensures left { Leaves (query (W.network graph.now) (W.Best.distance guide.now) eps goal) parts keeps result }
+                    (W.Best.guides guide.now (W.network graph.now) goal) workers parts }
+                ensures left { Leaves (query (W.network graph.now) (W.Best.distance guide.now) eps goal) workers parts keeps
+                    result }
             {
                 parallel_pass_parts(
                     rt, gate, workers, alloc, graph, guide, parts, goal, eps, keeps,
                 )
             };
-            match Epase::open(alloc, make, states, from, to) {
+            match Epase::open(alloc, make, task.how.workers, states, from, to) {
                 Ok(search) => go_through(alloc, world, search, task, live, telling, desk),
                 Err(NoMemory) => Status::NoMemory,
             }

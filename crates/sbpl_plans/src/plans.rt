@@ -63,7 +63,8 @@ fn open_session<W: Workspace + Drop, S: Search<W, W::Best> + Drop>(
     task: &Task,
 ) -> Result<Session<W, W::Best, S>, NoMemory>
     requires task { CanBeMade W.Workspace world task.now }
-    requires new { IsNewSearch S.meaning W.Workspace world task.now.start task.now.goal (S.state search) }
+    requires new { IsNewSearch S.meaning W.Workspace world task.now.how.now task.now.start task.now.goal
+        (S.state search) }
     requires serves { S.serves search }
     ensures world { IfOk result (λ s. s.world ≡ world) }
     ensures ready { IfOk result (IsReady S.meaning W.network W.Best.is_made_for) }
@@ -95,7 +96,8 @@ where
     S::Action: Traced,
     requires task { CanBeMade W.Workspace world task.now }
     requires few { length (entries_of live.old) < 2 ^ 62 }
-    requires new { IsNewSearch S.meaning W.Workspace world task.now.start task.now.goal (S.state search) }
+    requires new { IsNewSearch S.meaning W.Workspace world task.now.how.now task.now.start task.now.goal
+        (S.state search) }
     requires serves { S.serves search }
     ensures ends { EndsTask (planner_on W.Workspace S.meaning S.Action.line) (T.written telling.now) world task.now
         (entries_of live.old) (entries_of live.new) (D.state desk.old) (D.state desk.new) (number_of result) }

@@ -1,5 +1,5 @@
 -- What a job asks of a planner.
-use Rattle.std.specs.Prelude.{ℕ, Bool, true, false}
+use Rattle.std.specs.Prelude.{ℕ, Bool, true, false, if◌then◌else◌}
 use Rattle.std.specs.Option.{is_some}
 use Rattle.sbpl_report.specs.sbpl_search.Meaning.{Meaning}
 use Rattle.sbpl_report.specs.sbpl_serial.declared.step.Step.{Step}
@@ -11,7 +11,7 @@ use Rattle.sbpl_replan.specs.sbpl_adstar.Planner.{adstar}
 use Rattle.sbpl_report.specs.sbpl_frontier_rules.declared.event.Event.{Event}
 use Rattle.sbpl_epase.specs.Planner.{epase}
 use Rattle.sbpl_report.specs.sbpl_plan.declared.ask.Ask.{Ask}
-use Rattle.sbpl_report.specs.sbpl_job.Jobs.{may_move}
+use Rattle.sbpl_report.specs.sbpl_job.Jobs.{has_workers, may_move}
 use Rattle.sbpl_report.specs.sbpl_job.declared.job.Outputs.{Outputs}
 use Rattle.sbpl_report.specs.sbpl_job.declared.job.Planner.{Planner}
 use Rattle.sbpl_report.specs.sbpl_job.declared.job.Planner.TheVariants as planner
@@ -28,6 +28,13 @@ is_determined planner.Ara = true
 is_determined planner.AdStar = true
 is_determined planner.Back = true
 is_determined planner.Epase = false
+
+-- how many workers make the passes of a search: as many as are asked for by a planner that has workers, and one by another
+abbrev pub workers_by : Planner → (asked : ℕ) → ℕ
+workers_by p asked = if has_workers p then asked else 1
+
+abbrev pub workers_of : SearchJob → ℕ
+workers_of how = workers_by how.planner how.workers
 
 -- a planner's search: the actions that its passes record, what its calls mean, and how an action is told in a trace
 pub record Search : Type 1 where

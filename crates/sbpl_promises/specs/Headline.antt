@@ -22,7 +22,7 @@ use Rattle.sbpl_report.specs.declared.record.PathRecord.{PathRecord}
 use Rattle.sbpl_report.specs.declared.record.PlanRecord.{PlanRecord}
 use Rattle.sbpl_report.specs.sbpl_job.declared.job.Outputs.{Outputs}
 use Rattle.sbpl_report.specs.sbpl_job.declared.job.SearchJob.{SearchJob}
-use Rattle.sbpl_promises.specs.Asked.{PlannerOn, ask_of, from_by, planner_for, to_by}
+use Rattle.sbpl_promises.specs.Asked.{PlannerOn, ask_of, from_by, planner_for, to_by, workers_of}
 use Rattle.sbpl_promises.specs.Sites.{Leads, Site, start_after}
 use Rattle.sbpl_report.specs.Traces.{traced_pass}
 use Rattle.sbpl_report.specs.Shown.{IsShown, IsThere}
@@ -118,7 +118,7 @@ IsMarked budget before spent r = MatchBool spent
     (r.spent ≡ None)
 
 -- The record of a search on the planner's site, guided as that says, from initial or repaired labels: the states that were
--- raised before its passes, where they are to be told; its passes in turn, as few as the step allows; the result by the final labels,
+-- raised before its passes, where they are to be told; its passes in turn, by the workers that are asked for, as few as the step allows; the result by the final labels,
 -- and a section of these labels, where they are to be written. A plan expands no more than its budget, and the run no more than 2 ^ 30.
 -- A budget for each state in each pass, as often as the planner may take one, is not spent, unless the run's is.
 pub record IsSearched {W : Type 0} (by : PlannerOn W) (w : W) (how : SearchJob) (outputs : Outputs) (start goal : ℕ) (before : Option Carried) (carried : Carried) (r : PlanRecord) : Type 0 where
@@ -130,7 +130,7 @@ pub record IsSearched {W : Type 0} (by : PlannerOn W) (w : W) (how : SearchJob) 
   pub raises : r.raised ≡ (if is_some outputs.trace then raised else [])
   pub spent : Bool
   pub recorded : List (PassRecord by.Action)
-  pub passes : ArePasses by.means (inquiry_of (by.on.network w) guide (to_by by start goal) (ask_of how outputs)) how.first begun recorded carried.labels spent
+  pub passes : ArePasses by.means (inquiry_of (by.on.network w) guide (to_by by start goal) (workers_of how) (ask_of how outputs)) how.first begun recorded carried.labels spent
   pub lines : r.passes ≡ map (traced_pass by.line) recorded
   pub found : PlanResult FoundPath
   pub is_result : IsResultOf (by.on.network w) guide (to_by by start goal) carried.labels found
@@ -153,7 +153,7 @@ pub record IsBrokenOff {W : Type 0} (by : PlannerOn W) (w : W) (how : SearchJob)
   pub begins : Begins by.means by.on w (from_by by start goal) before begun raised
   pub left : Marks
   pub recorded : List (PassRecord by.Action)
-  pub passes : AreFirstPasses by.means (inquiry_of (by.on.network w) guide (to_by by start goal) (ask_of how outputs)) how.first begun recorded left
+  pub passes : AreFirstPasses by.means (inquiry_of (by.on.network w) guide (to_by by start goal) (workers_of how) (ask_of how outputs)) how.first begun recorded left
   pub found_is : found ≡ founds recorded
 
 -- memory ran out in plan k, on the map after the first k batches, or before its first pass

@@ -76,6 +76,7 @@ stands means q Ready Told old new are again (inl part) = inl (record {
   same = record {
     start = part.leaves.start;
     goal = part.leaves.same_goal;
+    workers = part.leaves.same_workers;
     per_plan = ap (λ (c : Counts). c.per_plan) part.leaves.counted;
   };
 })

@@ -33,19 +33,20 @@ pub record Standing (Action : Type 0) : Type 0 where
 abbrev pub at_plan : Counts → Counts
 at_plan counts = record counts { plan = 0 }
 
--- what stays the same over a plan on a graph, with a guide to the goal of the search
+-- what stays the same over a plan on a graph, with a guide to the goal of the search, by the search's workers
 abbrev pub inquiry : {Action : Type 0} → Network → (ℕ → ℕ) → Standing Action → Ask → Inquiry
-inquiry n guide s ask = inquiry_of n guide s.search.goal ask
+inquiry n guide s ask = inquiry_of n guide s.search.goal s.search.workers ask
 
 -- the searches of the plans go from the one state to the other
 pub record GoesBetween {Action : Type 0} (from to : ℕ) (s : Standing Action) : Type 0 where
   pub from_is : s.search.labels.start ≡ from
   pub to_is : s.search.goal ≡ to
 
--- the start and the goal of the search and the budget of a plan stay
+-- the start, the goal and the workers of the search and the budget of a plan stay
 pub record StaysTheSame {Action : Type 0} (old new : Standing Action) : Type 0 where
   pub start : new.search.labels.start ≡ old.search.labels.start
   pub goal : new.search.goal ≡ old.search.goal
+  pub workers : new.search.workers ≡ old.search.workers
   pub per_plan : new.counts.per_plan ≡ old.counts.per_plan
 
 -- the searches of the plans to come go to this state; all else of the search, and the counts, stay
@@ -59,12 +60,13 @@ pub record AreBegunFrom {Action : Type 0} (from : ℕ) (old new : State Action) 
   pub none_raised : new.raised ≡ []
 
 -- the searches of the plans to come go from this state: with initial labels where they went from another, and with the labels that
--- there were otherwise; the goal and the counts stay
+-- there were otherwise; the goal, the workers and the counts stay
 pub record IsMoved {Action : Type 0} (from : ℕ) (old new : Standing Action) : Type 0 where
   pub from_is : new.search.labels.start ≡ from
   pub begun : old.search.labels.start ≢ from → AreBegunFrom from old.search new.search
   pub stays : old.search.labels.start ≡ from → new.search ≡ old.search
   pub goal : new.search.goal ≡ old.search.goal
+  pub workers : new.search.workers ≡ old.search.workers
   pub counts : new.counts ≡ old.counts
 
 -- Memory ran out after a part of a plan, whose expansions are counted and none of which is beyond the budget; another plan may begin,

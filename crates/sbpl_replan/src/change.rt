@@ -34,6 +34,7 @@ pub(crate) fn change<W: Terrain, H: Heuristic<W>, S: Search<W, H>>(
     ensures fresh { OnOk result (IsStartFresh (S.state search.new).labels) }
     ensures start { OnOk result ((S.state search.new).labels.start ≡ (S.state search.old).labels.start) }
     ensures same_goal { OnOk result ((S.state search.new).goal ≡ (S.state search.old).goal) }
+    ensures same_workers { OnOk result ((S.state search.new).workers ≡ (S.state search.old).workers) }
     ensures unchanged { OnErr result (search.new ≡ search.old) }
     ensures serves { S.serves search.old → S.serves search.new }
 {

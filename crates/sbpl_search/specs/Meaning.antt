@@ -10,6 +10,8 @@ use Rattle.sbpl_search.specs.State.{State}
 -- ready: labels from which a pass may begin on a graph, at this count of expansions
 -- leads: a pass that did this leads from the old labels to the new ones
 -- rests, goes_on: after it nothing is left to expand whose key is below the goal's, or something is
+-- seated: what it did was done by this many workers
+-- keeps: whether what it did is kept, so that it can be read, by whether it is to be told
 -- expansions, times: how many states it expanded, and how often it took one state
 -- most: how often a pass takes one state at most
 -- repairs: whether labels are repaired after a change of the graph
@@ -21,6 +23,8 @@ pub record Meaning (Action : Type 0) : Type 1 where
   pub leads : Query → List Action → (old new : Marks) → Type 0
   pub rests : Query → List Action → Marks → Type 0
   pub goes_on : Query → List Action → Marks → Type 0
+  pub seated : (workers : ℕ) → List Action → Type 0
+  pub keeps : (traced : Bool) → Bool
   pub expansions : List Action → ℕ
   pub times : ℕ → List Action → ℕ
   pub most : ℕ
@@ -34,6 +38,8 @@ pub record MeanAlike {Action : Type 0} (a b : Meaning Action) : Type 0 where
   pub leads : (q : Query) (actions : List Action) (old new : Marks) → a.leads q actions old new ↔ b.leads q actions old new
   pub rests : (q : Query) (actions : List Action) (m : Marks) → a.rests q actions m ↔ b.rests q actions m
   pub goes_on : (q : Query) (actions : List Action) (m : Marks) → a.goes_on q actions m ↔ b.goes_on q actions m
+  pub seated : (workers : ℕ) (actions : List Action) → a.seated workers actions ↔ b.seated workers actions
+  pub keeps : (traced : Bool) → a.keeps traced ≡ b.keeps traced
   pub expansions : (actions : List Action) → a.expansions actions ≡ b.expansions actions
   pub times : (s : ℕ) (actions : List Action) → a.times s actions ≡ b.times s actions
   pub most : a.most ≡ b.most

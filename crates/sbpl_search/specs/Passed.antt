@@ -12,8 +12,8 @@ use Rattle.sbpl_search.specs.Query.{Query}
 use Rattle.sbpl_search.specs.Ready.{IsStartFresh}
 use Rattle.sbpl_search.specs.State.{State}
 
--- A pass led from the one state of a search to the other, and ended so. It takes each state no more often than the planner
--- says, each expansion is counted, and it is spent only where the budget is and something is left to expand, so not after it
+-- A pass led from the one state of a search to the other, and ended so. It is made by the search's workers, takes each state no more
+-- often than the planner says, each expansion is counted, and it is spent only where the budget is and something is left to expand, so not after it
 -- has taken each state as often as it may. At rest no state on the chain of back arcs from the goal is underconsistent; with
 -- inflation one the labels then show that there is no path where the goal's is infinite, and that each path costs at least g of
 -- the goal. The labels may begin another pass, and support a bound. The list of the states that were raised for the plan stays as
@@ -22,6 +22,7 @@ pub record IsPassed {Action : Type 0} (means : Meaning Action) (q : Query) (old 
   pub leads : means.leads q new.actions old.labels new.labels
   pub rests : end ≡ Rest → means.rests q new.actions new.labels
   pub goes_on : end ≡ Spent → means.goes_on q new.actions new.labels
+  pub seated : means.seated old.workers new.actions
   pub is_spent : end ≡ Spent → IsSpent after
   pub counted : after ≡ record before { plan = before.plan + means.expansions new.actions; run = before.run + means.expansions new.actions }
   pub each : (s : ℕ) → means.times s new.actions ≤ means.most
@@ -35,5 +36,6 @@ pub record IsPassed {Action : Type 0} (means : Meaning Action) (q : Query) (old 
   pub start : new.labels.start ≡ old.labels.start
   pub states : states_of new.labels ≡ states_of old.labels
   pub goal : new.goal ≡ old.goal
+  pub workers : new.workers ≡ old.workers
   pub raised : new.raised ≡ old.raised
   pub fresh : IsStartFresh old.labels → IsStartFresh new.labels

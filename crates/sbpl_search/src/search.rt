@@ -26,14 +26,14 @@ pub trait Search<G: Graph, H: Guide> {
     /// What the planner's calls mean.
     ghost meaning: { Meaning Self.Action };
 
-    /// The labels, the goal, what the last pass did, and the states that were raised for the present plan.
+    /// The number of workers, the labels, the goal, what the last pass did, and the states that were raised for the present plan.
     ghost state: { Self → State Self.Action };
 
     /// What a pass asks of the planner's value, such as that it can call what it was given.
     ghost serves: { Self → Type 0 } = { λ _. ⊤ };
 
     /// A pass of this inflation, in thousandths, 1000 to 100000: it goes on until no open key is below the goal's, or until
-    /// the budget is spent. What it does is kept where it is to be told. Where memory runs out, the planner's meaning says what
+    /// the budget is spent. What it does is kept where it is to be told, and else where the planner's meaning says so. Where memory runs out, the planner's meaning says what
     /// is left.
     fn pass(
         &mut self,
@@ -52,6 +52,7 @@ pub trait Search<G: Graph, H: Guide> {
         ensures passed { IfOk result (IsPassed meaning (query (G.network graph.now) (H.distance guide.now) eps
             (state self.old).goal) (state self.old) (state self.new) budget.old budget.new) }
         ensures kept { traced ≡ true → OnOk result ((state self.new).kept ≡ true) }
+        ensures kept_so { OnOk result ((state self.new).kept ≡ meaning.keeps traced) }
         ensures cut { OnErr result (meaning.cut (query (G.network graph.now) (H.distance guide.now) eps
             (state self.old).goal) (state self.old) (state self.new) budget.old budget.new) }
         ensures serves { serves self.new };
@@ -76,6 +77,7 @@ pub trait Search<G: Graph, H: Guide> {
         ensures start { (state self.new).labels.start ≡ (state self.old).labels.start }
         ensures states { states_of (state self.new).labels ≡ states_of (state self.old).labels }
         ensures goal { (state self.new).goal ≡ (state self.old).goal }
+        ensures workers { (state self.new).workers ≡ (state self.old).workers }
         ensures serves { serves self.old → serves self.new };
 
     /// Sets the goal of the passes to come, a state by its number. All else stays, so the next pass goes on from these
@@ -94,6 +96,7 @@ pub trait Search<G: Graph, H: Guide> {
         ensures fresh { IsStartFresh (state self.new).labels }
         ensures none_raised { (state self.new).raised ≡ [] }
         ensures goal { (state self.new).goal ≡ (state self.old).goal }
+        ensures workers { (state self.new).workers ≡ (state self.old).workers }
         ensures serves { serves self.old → serves self.new };
 
     /// The goal of the passes, a state by its number.

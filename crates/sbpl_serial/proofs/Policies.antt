@@ -51,6 +51,7 @@ module _ {q : Query} {old new : SerialState} {before after : Counts} {end : Pass
     leads = pass.run;
     rests = pass.rest.0;
     goes_on = λ spent. (pass.spent.0 spent).1;
+    seated = tt;
     is_spent = λ spent. (pass.spent.0 spent).0;
     counted = pass.counted;
     each = each;
@@ -64,6 +65,7 @@ module _ {q : Query} {old new : SerialState} {before after : Counts} {end : Pass
     start = pass.start;
     states = pass.states;
     goal = pass.goal;
+    workers = refl;
     raised = refl;
     fresh = pass.fresh;
   }

@@ -55,13 +55,15 @@ trace_left true trace = trace
 abbrev pub Begins : (repairs : Bool) → Network → (touched : List ℕ) → (old new : Marks) → (raised : List ℕ) → Type 0
 Begins repairs n touched old new raised = AreRenewed repairs n touched old new × (raised ≡ [])
 
--- a pass is a serial run, and takes no memory
+-- a pass is a serial run, which one worker makes, always keeps what it did, and takes no memory
 abbrev pub serial : (repairs : Bool) → Meaning Step
 serial repairs = record {
   ready = MayBeginPass repairs;
   leads = λ q steps old new. IsSerialRun q none_closed steps old new;
   rests = λ q steps m. IsAtRest q (closed_after none_closed steps) m;
   goes_on = λ q steps m. (s : ℕ) × IsNext q (closed_after none_closed steps) m s;
+  seated = λ workers steps. ⊤;
+  keeps = λ traced. true;
   expansions = length;
   times = times;
   most = most_times repairs;
@@ -70,6 +72,6 @@ serial repairs = record {
   cut = λ q old new before after. ⊥;
 }
 
--- the labels, the goal and the trace, which is always kept
+-- the labels, the goal and the trace
 abbrev pub seen : SerialState → State Step
-seen a = record { labels = a.labels; goal = a.goal; actions = a.trace; kept = true; raised = [] }
+seen a = record { workers = 1; labels = a.labels; goal = a.goal; actions = a.trace; kept = true; raised = [] }

@@ -6,7 +6,7 @@ ghost use Rattle.sbpl_heur.specs.Bests.{IsGuide, distance_in};
 ghost use Rattle.sbpl_plan.specs.sbpl_search.Query.{query};
 ghost use Rattle.sbpl_epase.specs.Making.{CanPass, Leaves};
 
-use sbpl_epase::{Epase, Event, NoGate, Parts, parallel_pass_parts};
+use sbpl_epase::{Epase, Event, NoGate, Parts, Passed, parallel_pass_parts};
 use sbpl_heur::{Best, Lattice};
 use sbpl_plan::{Ask, Budget, Graph, Inquiry, Nobody, PlanResult, Planned, plan};
 use std::alloc::Global;
@@ -21,17 +21,41 @@ const FALLING: Ask = Ask {
     traced: false,
 };
 
-/// How many workers make the pass of this inflation, in thousandths.
-fn workers_at(eps: u32) -> u32
+/// How many workers make the pass of this inflation, in thousandths, where there are at most so many.
+fn workers_at(eps: u32, most: u32) -> u32
+    requires some { 1 ≤ most }
     ensures some { 1 ≤ result }
-    ensures few { result ≤ 64 }
+    ensures few { result ≤ most }
 {
-    match eps {
+    let workers = match eps {
         3000 => 1,
         2500 => 4,
         2000 => 2,
         _ => 3,
-    }
+    };
+    workers.min(most)
+}
+
+/// A pass of this inflation, by as many of the workers as are at it.
+fn pass_at<R: Threads + Wait + Sync>(
+    rt: &R,
+    alloc: Global,
+    graph: &Lattice,
+    guide: &Best,
+    most: u32,
+    parts: Parts,
+    goal: u32,
+    eps: u32,
+    keeps: bool,
+) -> Result<Passed, Parts>
+    requires can { CanPass (query (network_of graph.now) (distance_in guide.now) eps goal)
+        (IsGuide (network_of graph.now) goal guide.now) most parts }
+    ensures left { Leaves (query (network_of graph.now) (distance_in guide.now) eps goal) most parts keeps result }
+{
+    let workers = workers_at(eps, most);
+    parallel_pass_parts(
+        rt, &NoGate, workers, alloc, graph, guide, parts, goal, eps, keeps,
+    )
 }
 
 /// How many passes a plan made, and the cost of its path.
@@ -55,25 +79,12 @@ pub(crate) fn falling<R: Threads + Wait + Sync>(
     requires goal { goal < (network_of lattice.now).states }
     requires guide { IsGuide (network_of lattice.now) goal best.now }
 {
-    let make = move |alloc: Global, graph: &Lattice, guide: &Best, parts: Parts, goal: u32, eps: u32, keeps: bool|
+    let make = move |alloc: Global, graph: &Lattice, guide: &Best, most: u32, parts: Parts, goal: u32, eps: u32, keeps: bool|
         requires can { CanPass (query (network_of graph.now) (distance_in guide.now) eps goal)
-            (IsGuide (network_of graph.now) goal guide.now) parts }
-        ensures left { Leaves (query (network_of graph.now) (distance_in guide.now) eps goal) parts keeps result }
-    {
-        parallel_pass_parts(
-            rt,
-            &NoGate,
-            workers_at(eps),
-            alloc,
-            graph,
-            guide,
-            parts,
-            goal,
-            eps,
-            keeps,
-        )
-    };
-    let Ok(mut search) = Epase::open(alloc, make, lattice.states(), 0, goal) else {
+            (IsGuide (network_of graph.now) goal guide.now) most parts }
+        ensures left { Leaves (query (network_of graph.now) (distance_in guide.now) eps goal) most parts keeps result }
+    { pass_at(rt, alloc, graph, guide, most, parts, goal, eps, keeps) };
+    let Ok(mut search) = Epase::open(alloc, make, 4, lattice.states(), 0, goal) else {
         return None;
     };
     let mut budget = Budget::new(1 << 30);

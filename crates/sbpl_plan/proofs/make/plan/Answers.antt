@@ -64,7 +64,8 @@ returns-in_err-trace-clause-memory g c =
     (runs_out_after g.S.Search.meaning here.going_on
     (iteration_of g.S.Search.meaning (c.is_spent-spent.ensures.spent.0) (c.is_spent-spent.ensures.rest.0)
     here.going_on.leaves.fresh (g.met.S.Search.usable _ _ _ passed.ready).states passed
-    c.expanded-expanded.ensures.value refl here.going_on.leaves.same_goal c.look-found.ensures.found)
+    c.expanded-expanded.ensures.value refl here.going_on.leaves.same_goal here.going_on.leaves.same_workers
+    c.look-found.ensures.found)
     (λ ps. AreTold g.O.Observer.told 0 ps c.args.observer.now c.tell.new.observer)
     (told_more g.O.Observer.told _ _ _ _ _ here.number here.told c.tell.ensures.told))
 
@@ -76,7 +77,8 @@ returns-in_err-push-clause-memory g c =
     (runs_out_after g.S.Search.meaning here.going_on
     (iteration_of g.S.Search.meaning (c.is_spent-spent.ensures.spent.0) (c.is_spent-spent.ensures.rest.0)
     here.going_on.leaves.fresh (g.met.S.Search.usable _ _ _ passed.ready).states passed
-    c.expanded-expanded.ensures.value c.in_ok-trace.ensures.trace here.going_on.leaves.same_goal c.look-found.ensures.found)
+    c.expanded-expanded.ensures.value c.in_ok-trace.ensures.trace here.going_on.leaves.same_goal here.going_on.leaves.same_workers
+    c.look-found.ensures.found)
     (λ ps. AreTold g.O.Observer.told 0 ps c.args.observer.now c.tell.new.observer)
     (told_more g.O.Observer.told _ _ _ _ _ here.number here.told c.tell.ensures.told))
 
@@ -86,7 +88,7 @@ returns-then-is_last-clause-planned g c =
     let passed = c.in_ok-end.ensures.passed in
     let q : Inquiry =
     inquiry_of (g.G.Graph.network c.args.inquiry.now.graph.now) (g.H.Guide.distance c.args.inquiry.now.guide.now)
-    (g.S.Search.state c.args.search.now).goal c.args.inquiry.now.ask.now in
+    (g.S.Search.state c.args.search.now).goal (g.S.Search.state c.args.search.now).workers c.args.inquiry.now.ask.now in
     let new : State g.row.S-Action.Denot = g.S.Search.state c.pass.new.self in
     let spent = c.is_spent-spent.result in
     let found = c.look-found.result in
@@ -94,7 +96,8 @@ returns-then-is_last-clause-planned g c =
     let t =
     iteration_of g.S.Search.meaning (c.is_spent-spent.ensures.spent.0) (c.is_spent-spent.ensures.rest.0)
     here.going_on.leaves.fresh (g.met.S.Search.usable _ _ _ passed.ready).states passed
-    c.expanded-expanded.ensures.value c.in_ok-trace.ensures.trace here.going_on.leaves.same_goal c.look-found.ensures.found in
+    c.expanded-expanded.ensures.value c.in_ok-trace.ensures.trace here.going_on.leaves.same_goal here.going_on.leaves.same_workers
+    c.look-found.ensures.found in
     let last : EndsPlan q c.passes.eps new.labels spent found =
     ends_so q c.passes.eps spent found c.labels.ensures.value c.goal-goal.ensures.value
     (c.is_last.ensures.last.0 c.if-is_last.true) in
@@ -123,7 +126,7 @@ passes-preserved g c =
     let passed = c.in_ok-end.ensures.passed in
     let q : Inquiry =
     inquiry_of (g.G.Graph.network c.args.inquiry.now.graph.now) (g.H.Guide.distance c.args.inquiry.now.guide.now)
-    (g.S.Search.state c.args.search.now).goal c.args.inquiry.now.ask.now in
+    (g.S.Search.state c.args.search.now).goal (g.S.Search.state c.args.search.now).workers c.args.inquiry.now.ask.now in
     let old : State g.row.S-Action.Denot = g.S.Search.state c.args.search.now in
     let new : State g.row.S-Action.Denot = g.S.Search.state c.pass.new.self in
     let not =
@@ -135,7 +138,8 @@ passes-preserved g c =
     let t =
     iteration_of g.S.Search.meaning (c.is_spent-spent.ensures.spent.0) (c.is_spent-spent.ensures.rest.0)
     here.going_on.leaves.fresh (g.met.S.Search.usable _ _ _ passed.ready).states passed
-    c.expanded-expanded.ensures.value c.in_ok-trace.ensures.trace here.going_on.leaves.same_goal c.look-found.ensures.found in
+    c.expanded-expanded.ensures.value c.in_ok-trace.ensures.trace here.going_on.leaves.same_goal here.going_on.leaves.same_workers
+    c.look-found.ensures.found in
     let on = goes_on g.S.Search.meaning here.going_on t c.requires.asked here.low not in
     let high = here.high in
     let is = c.lowered-eps.ensures.lowered in

@@ -8,7 +8,7 @@ use Rattle.sbpl_plan.proofs.make.plan.Given as goal
 abbrev pub invariant-passes : goal.invariant-passes
 invariant-passes g l = record {
   going_on : AreGoingOn g.S.Search.meaning (inquiry_of (g.G.Graph.network l.graph) (g.H.Guide.distance l.guide)
-      (g.S.Search.state l.fn.search).goal l.ask) (g.S.Search.state l.fn.search) (g.S.Search.state l.search)
+      (g.S.Search.state l.fn.search).goal (g.S.Search.state l.fn.search).workers l.ask) (g.S.Search.state l.fn.search) (g.S.Search.state l.search)
       l.fn.budget l.budget l.passes.items l.eps;
   low : 1000 ≤ l.eps;
   high : l.eps ≤ 100000;

@@ -27,7 +27,7 @@ use Rattle.sbpl_plans.proofs.Founds.{broken_by, first_of_all, founds_traced, non
 use Rattle.sbpl_plans.proofs.Founds.{on_err_is, stands_broken, stands_so, expansions_traced}
 use Rattle.sbpl_plans.proofs.Observed.{same_if, shown, stands_same, then_same}
 use Rattle.sbpl_worlds.specs.sbpl_report.declared.record.PlanRecord.{PlanRecord}
-use Rattle.sbpl_worlds.specs.sbpl_promises.Asked.{PlannerOn, ask_of, from_by, planner_on, to_by}
+use Rattle.sbpl_worlds.specs.sbpl_promises.Asked.{PlannerOn, ask_of, from_by, planner_on, to_by, workers_of}
 use Rattle.sbpl_worlds.specs.sbpl_promises.Sites.{Leads, Site, from_of, to_of}
 use Rattle.sbpl_worlds.specs.sbpl_promises.Headline.{Begins, Carried, IsKnownWithin, IsMarked, IsNoneThere, IsSearched, IsToldOf}
 use Rattle.sbpl_worlds.specs.sbpl_promises.Headline.{IsWithinBound, Joins, KeepsPromises, expanded_before}
@@ -66,7 +66,7 @@ module _ {W : Type 0} (by : PlannerOn W) (w : W) (guide : ℕ → ℕ) (start go
       → by.on.says w (to_by by start goal) guide
       → Begins by.means by.on w (from_by by start goal) before begun raised
       → asked ≡ ask_of how outputs
-      → ArePasses by.means (inquiry_of (by.on.network w) guide (to_by by start goal) asked) asked.first
+      → ArePasses by.means (inquiry_of (by.on.network w) guide (to_by by start goal) (workers_of how) asked) asked.first
       begun planned.passes final planned.spent
       → IsResultOf (by.on.network w) guide (to_by by start goal) final planned.outcome
       → per_plan ≡ how.budget → run ≡ expanded_before before + expansions planned.passes
@@ -106,7 +106,7 @@ module _ {W : Type 0} (by : PlannerOn W) (w : W) (guide : ℕ → ℕ) (start go
         recorded = planned.passes;
         passes =
             subst (λ (a : Ask). ArePasses by.means (inquiry_of (by.on.network w) guide
-            (to_by by start goal) a) a.first begun planned.passes final planned.spent) same passes;
+            (to_by by start goal) (workers_of how) a) a.first begun planned.passes final planned.spent) same passes;
         lines = copied;
         found = planned.outcome;
         is_result = outcome;
@@ -219,8 +219,10 @@ returns-clause-searched g c = λ before goes.
     (guided g.W.Best.Heuristic.is_made_for g.W.Workspace.says g.W.Best.Guide.distance
     g.met.W.Workspace.says_so c.args.session.now from to c.requires.can.ready set.between) goes.begins
     c.ask_of-ask.ensures.ask
-    (subst (λ (t : ℕ). ArePasses means (inquiry_of n guide t c.ask_of-ask.result) c.ask_of-ask.result.first
-    old.search.labels planned.passes new.search.labels planned.spent) set.between.to_is made.passes)
+    (subst (λ (k : ℕ). ArePasses means (inquiry_of n guide to k c.ask_of-ask.result) c.ask_of-ask.result.first
+    old.search.labels planned.passes new.search.labels planned.spent) set.workers_are
+    (subst (λ (t : ℕ). ArePasses means (inquiry_of n guide t old.search.workers c.ask_of-ask.result)
+    c.ask_of-ask.result.first old.search.labels planned.passes new.search.labels planned.spent) set.between.to_is made.passes))
     (subst (λ (t : ℕ). IsResultOf n guide t new.search.labels planned.outcome) set.between.to_is made.outcome)
     set.budget_is run used (λ is. in_run old.counts.run rises (within.used_up is)) within.of_plan
     c.in_ok-planned.ensures.run made.few
@@ -329,7 +331,7 @@ returns-in_err-planned-clause-broken g c = λ before goes.
     (standing_of c.args.session.now) (standing_of c.plan.new.self) c.ask_of-ask.result
     (guided g.W.Best.Heuristic.is_made_for g.W.Workspace.says g.W.Best.Guide.distance
     g.met.W.Workspace.says_so c.args.session.now from to c.requires.can.ready c.requires.can.set.between)
-    goes.begins c.ask_of-ask.ensures.ask c.requires.can.set.between.to_is
+    goes.begins c.ask_of-ask.ensures.ask c.requires.can.set.between.to_is c.requires.can.set.workers_are
     (stands_so _ _ (λ ps told. shown c.args.live.now c.begin.new.self c.plan.new.observer c.args.at.plan c.begin.ensures.same
     c.begin.ensures.entries c.begin.ensures.plan ps told) c.in_err-planned.ensures.memory))
 
@@ -351,7 +353,7 @@ returns-in_err-incumbent-clause-broken g c = λ before goes.
     old ask left planned.passes
     (guided g.W.Best.Heuristic.is_made_for g.W.Workspace.says g.W.Best.Guide.distance
     g.met.W.Workspace.says_so c.args.session.now from to c.requires.can.ready c.requires.can.set.between)
-    goes.begins c.ask_of-ask.ensures.ask c.requires.can.set.between.to_is
+    goes.begins c.ask_of-ask.ensures.ask c.requires.can.set.between.to_is c.requires.can.set.workers_are
     (first_of_all by.means (inquiry (g.W.Graph.network w) guide old ask) planned.passes ask.first old.search.labels left
     planned.spent c.in_ok-planned.ensures.planned.passes)
     (c.newest.ensures.published ∙ shown c.args.live.now c.begin.new.self c.plan.new.observer c.args.at.plan c.begin.ensures.same
@@ -375,7 +377,7 @@ returns-in_err-labels-clause-broken g c = λ before goes.
     old ask left planned.passes
     (guided g.W.Best.Heuristic.is_made_for g.W.Workspace.says g.W.Best.Guide.distance
     g.met.W.Workspace.says_so c.args.session.now from to c.requires.can.ready c.requires.can.set.between)
-    goes.begins c.ask_of-ask.ensures.ask c.requires.can.set.between.to_is
+    goes.begins c.ask_of-ask.ensures.ask c.requires.can.set.between.to_is c.requires.can.set.workers_are
     (first_of_all by.means (inquiry (g.W.Graph.network w) guide old ask) planned.passes ask.first old.search.labels left
     planned.spent c.in_ok-planned.ensures.planned.passes)
     (c.newest.ensures.published ∙ shown c.args.live.now c.begin.new.self c.plan.new.observer c.args.at.plan c.begin.ensures.same
@@ -399,7 +401,7 @@ returns-clause-broken g c = λ before goes.
     old ask left planned.passes
     (guided g.W.Best.Heuristic.is_made_for g.W.Workspace.says g.W.Best.Guide.distance
     g.met.W.Workspace.says_so c.args.session.now from to c.requires.can.ready c.requires.can.set.between)
-    goes.begins c.ask_of-ask.ensures.ask c.requires.can.set.between.to_is
+    goes.begins c.ask_of-ask.ensures.ask c.requires.can.set.between.to_is c.requires.can.set.workers_are
     (first_of_all by.means (inquiry (g.W.Graph.network w) guide old ask) planned.passes ask.first old.search.labels left
     planned.spent c.in_ok-planned.ensures.planned.passes)
     (c.newest.ensures.published ∙ shown c.args.live.now c.begin.new.self c.plan.new.observer c.args.at.plan c.begin.ensures.same

@@ -2,6 +2,7 @@ use Rattle.std.proofs.Common.{◌≡◌, ℕ, ◌<◌, Some, refl, sym, ap, ◌�
 use Rattle.sbpl_adstar.specs.sbpl_search.Query.{Query, query}
 use Rattle.sbpl_frontier.specs.sbpl_frontier_rules.Laws.{IsLawful, MayBegin}
 use Rattle.sbpl_frontier.specs.sbpl_frontier_core.Passes.{IsPassFinished}
+use Rattle.sbpl_frontier.specs.sbpl_frontier_core.Seats.{AreTakenBelow}
 use Rattle.sbpl_epase.specs.Parts.{Seeker, labels_in}
 use Rattle.sbpl_epase.proofs.Passing.{finished_passed}
 use Rattle.sbpl_epase.proofs.planner.EpaseSearch.pass.Goals as goal
@@ -26,6 +27,10 @@ returns-in-Ok-clause-passed g c =
     let own : c.args.self.now.search.labels ≡ c.unwrap-labels.result = seen ∙ inner in
     let same_goal : c.self.inside.goal ≡ c.args.self.now.search.goal =
     ap (λ (s : Seeker _). s.search.goal) c.self.view_is in
+    let same_workers : c.self.inside.workers ≡ c.args.self.now.search.workers =
+    ap (λ (s : Seeker _). s.search.workers) c.self.view_is in
+    let seats : AreTakenBelow c.args.self.now.search.workers c.in-Ok.passed.journal.events =
+    rw (← same_workers) c.in-Ok.ensures.seats in
     let taken : c.args.budget.now ≡ c.replace-taken.result = sym c.replace-taken.ensures.value in
     let begins : MayBegin q c.unwrap-labels.result c.replace-taken.result = record {
       labels = c.start-start.ensures.labels;
@@ -41,7 +46,7 @@ returns-in-Ok-clause-passed g c =
     (finished_passed q c.unwrap-labels.result c.in-Ok.passed.parts.labels c.replace-taken.result
     c.in-Ok.passed.parts.budget c.args.traced c.in-Ok.passed.journal c.in-Ok.passed.end lawful begins finished
     laws.first laws.each laws.exact laws.settled laws.once laws.free laws.marked laws.start small _ _ own
-    refl refl same_goal (ap (λ (s : Seeker _). s.search.raised) c.self.view_is) refl)
+    refl refl same_goal same_workers seats (ap (λ (s : Seeker _). s.search.raised) c.self.view_is) refl)
 
 pub pass_by-requires-clause-makes : goal.pass_by-requires-clause-makes
 pass_by-requires-clause-makes g c = rw (ap (λ (s : Seeker _). s.make) c.self.view_is) c.requires.serves
