@@ -8,22 +8,44 @@ ghost use Rattle.sbpl_desk.specs.Real.{real_read_faults, real_state, real_write_
 
 use crate::desk::MOST;
 use crate::{Desk, ReadStop, WriteStop};
-use std::fs::{OpenFile, OpenOptions};
+use std::fs::{Metadata, OpenFile, OpenOptions};
 use std::io::{Read, Write};
+use std::os::unix::fs::MetadataExt;
 use std::rt::Files;
 use std::{fs, io};
 
 /// The bytes that are asked of the system at once.
 const PIECE: usize = 8192;
 
+/// What a file is, whatever its names: its device, and its number there.
+#[derive(Clone, Copy, PartialEq, Eq)]
+struct FileId {
+    device: u64,
+    number: u64,
+}
+
+/// What a file is, where it is a regular one. A pipe or a device keeps nothing that a write could destroy.
+fn id_of(metadata: &Metadata) -> Option<FileId> {
+    metadata.is_file().then_some(FileId {
+        device: metadata.dev(),
+        number: metadata.ino(),
+    })
+}
+
 /// The files of the system and the standard output. It tells no bytes.
+///
+/// A file that was read, or that is written under another name, is not written: the write fails, and the file stays as it is. Files
+/// are known by what they are, so a link is the file that it leads to.
 ///
 /// Its counts of failed reads and of failed writes are those of every name. Each rises where a call
 /// answers `Failed`: where the system answers with an error, or takes nothing of what is to be written.
 #[derive(Drop)]
 pub struct RealDesk<R: Files + Print + Alloc> {
     rt: R,
+    /// The names under which something was written.
     begun: Vec<String<R::A>, R::A>,
+    /// The files that were read or written.
+    used: Vec<FileId, R::A>,
     read_faults: u64,
     write_faults: u64,
 }
@@ -36,9 +58,11 @@ impl<R: Files + Print + Alloc> RealDesk<R> {
         ensures writes { real_write_faults result ≡ 0 }
     {
         let begun = Vec::new(rt.alloc());
+        let used = Vec::new(rt.alloc());
         RealDesk {
             rt,
             begun,
+            used,
             read_faults: 0,
             write_faults: 0,
         }
@@ -97,8 +121,13 @@ fn write_whole<W: Write>(to: &mut W, bytes: &[u8]) -> Result<(), WriteStop>
     Ok(())
 }
 
-/// Reads a file, with room for it from the start.
-fn read_file<R: Files>(rt: &R, name: &str, into: &mut Vec<u8>) -> Result<(), ReadStop>
+/// Reads a file, with room for it from the start, and notes it as used.
+fn read_file<R: Files + Alloc>(
+    rt: &R,
+    used: &mut Vec<FileId, R::A>,
+    name: &str,
+    into: &mut Vec<u8>,
+) -> Result<(), ReadStop>
     requires empty { into.old.items ≡ [] }
     ensures bounded { OnOk result (vec_len into.new ≤ 2 ^ 30) }
 {
@@ -108,14 +137,42 @@ fn read_file<R: Files>(rt: &R, name: &str, into: &mut Vec<u8>) -> Result<(), Rea
     let Ok(metadata) = file.metadata() else {
         return Err(ReadStop::Failed);
     };
+    if let Some(id) = id_of(&metadata) {
+        used.push(id)?;
+    }
     into.reserve(metadata.len().min(MOST as u64 + 1) as usize)?;
     read_whole(&mut file, into)
+}
+
+/// Opens a file that is to be written from its beginning, makes it or empties it, and notes it as used. One that was used is left as it
+/// is.
+fn begin_output<R: Files + Alloc>(
+    rt: &R,
+    used: &mut Vec<FileId, R::A>,
+    name: &str,
+) -> Result<R::File, WriteStop> {
+    used.reserve(1)?;
+    let opened = OpenOptions::new().write(true).create(true).open(rt, name);
+    let Ok(file) = opened else {
+        return Err(WriteStop::Failed);
+    };
+    let Ok(metadata) = file.metadata() else {
+        return Err(WriteStop::Failed);
+    };
+    if let Some(id) = id_of(&metadata) {
+        if used.contains(&id) || file.set_len(0).is_err() {
+            return Err(WriteStop::Failed);
+        }
+        used.push_reserved(id);
+    }
+    Ok(file)
 }
 
 /// Opens the file of a name to append to it. The first time it makes the file, or empties it.
 fn open_output<R: Files + Alloc>(
     rt: &R,
     begun: &mut Vec<String<R::A>, R::A>,
+    used: &mut Vec<FileId, R::A>,
     name: &str,
 ) -> Result<R::File, WriteStop> {
     if begun.iter().any(|other| other.as_str() == name) {
@@ -125,13 +182,11 @@ fn open_output<R: Files + Alloc>(
             .map_err(|_| WriteStop::Failed);
     }
     begun.push(String::from_str(rt.alloc(), name)?)?;
-    match fs::create(rt, name) {
-        Ok(file) => Ok(file),
-        Err(_) => {
-            begun.pop();
-            Err(WriteStop::Failed)
-        }
+    let opened = begin_output(rt, used, name);
+    if opened.is_err() {
+        begun.pop();
     }
+    opened
 }
 
 impl<R: Files + Print + Alloc> Desk for RealDesk<R> {
@@ -145,7 +200,7 @@ impl<R: Files + Print + Alloc> Desk for RealDesk<R> {
         ensures writes { real_write_faults self.new ≡ real_write_faults self.old }
     {
         into.clear();
-        let result = read_file(&self.rt, name, into);
+        let result = read_file(&self.rt, &mut self.used, name, into);
         if let Err(stop) = result {
             into.clear();
             if stop == ReadStop::Failed {
@@ -163,7 +218,7 @@ impl<R: Files + Print + Alloc> Desk for RealDesk<R> {
         let result = if name == "-" {
             write_whole(&mut io::writer(&self.rt), bytes)
         } else {
-            match open_output(&self.rt, &mut self.begun, name) {
+            match open_output(&self.rt, &mut self.begun, &mut self.used, name) {
                 Ok(mut file) => write_whole(&mut file, bytes),
                 Err(stop) => Err(stop),
             }
