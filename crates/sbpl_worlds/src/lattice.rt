@@ -17,12 +17,16 @@ use sbpl_promises::{
 };
 use std::alloc::Global;
 
-/// The message for primitives without a fault, of which one sweeps too many cells or costs too much.
-fn size_message(alloc: Global, name: &str) -> Result<Message, NoMemory>
+/// What is said of primitives of which one sweeps too many cells.
+const TOO_WIDE: &str = "with this --radius each primitive must sweep at most 65536 cells, and with those before it at most 4194304: the line of the refusal has the first that does not, counted from 0";
+
+/// What is said of primitives of which one costs too much.
+const TOO_DEAR: &str = "each primitive must cost at most 16777215: the line of the refusal has the first that does not, counted from 0";
+
+/// The message for primitives without a fault that the planner does not take.
+fn size_message(alloc: Global, name: &str, what: &str) -> Result<Message, NoMemory>
     ensures message { IfOk result (λ m. IsPlainMessage name.now m) }
 {
-    let what =
-        "each primitive must sweep at most 65536 cells, with those before it at most 4194304, and cost at most 16777215: the line of the refusal has the first that does not, counted from 0";
     let message = plain_message(alloc, name, what)?;
     Ok(message)
 }
@@ -37,7 +41,7 @@ fn make_sweeps(alloc: Global, from: &Sources, prims: &Prims) -> Result<Sweeps, J
     match Sweeps::new(alloc, prims, from.radius, prims.cell()) {
         Ok(sweeps) => Ok(sweeps),
         Err(SweepFault::TooWide(place)) => {
-            let message = size_message(alloc, from.prims.as_str())?;
+            let message = size_message(alloc, from.prims.as_str(), TOO_WIDE)?;
             Err(JobStop::Refused(Refusal::TooWide(place), message))
         }
         Err(SweepFault::NoMemory) => Err(JobStop::NoMemory),
@@ -48,7 +52,7 @@ fn make_sweeps(alloc: Global, from: &Sources, prims: &Prims) -> Result<Sweeps, J
 fn dear_stop(alloc: Global, from: &Sources, place: u32) -> JobStop
     ensures stop { IsDearStop from.now.prims place result }
 {
-    match size_message(alloc, from.prims.as_str()) {
+    match size_message(alloc, from.prims.as_str(), TOO_DEAR) {
         Ok(message) => JobStop::Refused(Refusal::TooDear(place), message),
         Err(NoMemory) => JobStop::NoMemory,
     }
