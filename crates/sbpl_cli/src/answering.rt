@@ -1,17 +1,15 @@
 //! What the program does for the words after its name, at any desk.
 
-ghost use Rattle.std.specs.Prelude.{◌≡◌, ◌<◌, ◌^◌, [], false, length, None, IsSome, map, string_bytes};
+ghost use Rattle.std.specs.Prelude.{◌≡◌, ◌<◌, ◌^◌, [], false, length, map, string_bytes};
 ghost use Rattle.std.specs.Io.KnownBytes.{Keeps};
 ghost use Rattle.sbpl_jobs.specs.sbpl_desk.Desk.{Rose};
-ghost use Rattle.sbpl_headline.specs.Headline.{IsHeadline};
 ghost use Rattle.sbpl_jobs.specs.sbpl_promises.Explained.{has_message};
-ghost use Rattle.sbpl_jobs.specs.sbpl_promises.Run.{IsOrUnwritten, IsStatus, MayBeWritten, job_named};
-ghost use Rattle.sbpl_jobs.specs.sbpl_promises.RunPromises.{RunPromises};
+ghost use Rattle.sbpl_jobs.specs.sbpl_promises.Run.{IsOrUnwritten};
 ghost use Rattle.sbpl_jobs.specs.sbpl_promises.Writing.{IsOutput, WritesOnly, output};
-ghost use Rattle.sbpl_jobs.specs.sbpl_job.Asked.{asked_for};
 ghost use Rattle.sbpl_jobs.specs.sbpl_plans.Boards.{IsSamePublisher, entries_of};
 ghost use Rattle.sbpl_jobs.specs.sbpl_report.Statuses.{number_of};
 ghost use Rattle.sbpl_jobs.specs.sbpl_telling.Endings.{message_of};
+ghost use Rattle.sbpl_cli.specs.Answered.{IsAnswered};
 
 use sbpl_headline::promises_show_the_headline;
 use sbpl_jobs::{
@@ -60,24 +58,13 @@ pub fn answer<R: Threads + Wait + Sync, D: Desk, T: Gate + Sync, E: io::Write>(
     err: &mut E,
 ) -> u8
     requires few { length (entries_of live.old) < 2 ^ 62 }
-    // Words that ask for help or the version are told it, unless that cannot be written or memory runs out.
-    ensures asked { IsSome (asked_for (map string_bytes words.now)) → IsOrUnwritten 0 result }
-    ensures unwritten { IsSome (asked_for (map string_bytes words.now)) → result ≡ 7
-        → Rose ((D.state desk.old).write_faults output) ((D.state desk.new).write_faults output) }
-    // All other words get what `run_with` promises, of this status.
-    ensures run { asked_for (map string_bytes words.now) ≡ None → RunPromises (job_named words.now) (D.state desk.old)
-        (D.state desk.new) (entries_of live.old) (entries_of live.new) result }
-    // And the headline, of `plan` and `nav`, in definitions of its own.
-    ensures headline { asked_for (map string_bytes words.now) ≡ None
-        → IsHeadline (map string_bytes words.now) (D.state desk.old) (D.state desk.new) result }
-    ensures statuses { IsStatus result }
-    // The publisher stays the board's, and where help or the version is told nothing is published.
+    // Help or the version is told, or the job is done as `run_with` does it: every promise, the headline and the frame.
+    ensures answered { IsAnswered (map string_bytes words.now) (D.state desk.old) (D.state desk.new) (entries_of live.old)
+        (entries_of live.new) result }
+    // The publisher stays the board's.
     ensures same { IsSamePublisher live.old live.new }
-    ensures unpublished { IsSome (asked_for (map string_bytes words.now)) → entries_of live.new ≡ entries_of live.old }
     // A message comes with the statuses 2 to 7 and 10 alone.
     ensures quiet { has_message result ≡ false → Keeps (E.contents err.old) (E.contents err.new) }
-    // Nothing that is held changes, nothing is written under names other than the job's, and no count falls.
-    ensures frame { WritesOnly (MayBeWritten (job_named words.now)) (D.state desk.old) (D.state desk.new) }
 {
     runs_keep_promises();
     promises_show_the_headline();

@@ -3,9 +3,11 @@
 #![tactic(auto)]
 
 mod answering;
+mod laws;
 mod top;
 
 pub use answering::answer;
+pub use laws::runs_may_end_at_once;
 pub use sbpl_jobs::{
     Board, CheckJob, Command, DemoJob, Desk, Ending, Entry, Gate, Job, JobFault, ListOf, LiveBoard,
     MemoryDesk, Name, NavCheckJob, NavJob, NoGate, Outputs, PlanJob, Planner, Publisher, ReadStop,

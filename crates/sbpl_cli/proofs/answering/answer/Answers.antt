@@ -59,72 +59,45 @@ quiet_by {status = status} (of_words none is plain) quiet = absurd (not_quiet 2 
 quiet_by {status = status} (unwritten is told) quiet = absurd (not_quiet 7 status (sym is) refl quiet)
 quiet_by (out_of_memory is none) quiet = none
 
-pub returns-in-Some-clause-asked : goal.returns-in-Some-clause-asked
-returns-in-Some-clause-asked g c = λ _. rw c.number.ensures.number c.tell.ensures.told
-
-pub returns-in-Some-clause-unwritten : goal.returns-in-Some-clause-unwritten
-returns-in-Some-clause-unwritten g c = λ _. rw c.number.ensures.number c.tell.ensures.write
-
-pub returns-in-Some-clause-run : goal.returns-in-Some-clause-run
-returns-in-Some-clause-run g c = λ none. absurd (not_asked _ _ c.in-Some.is (c.read_asked.ensures.asked ∙ none))
-
-pub returns-in-Some-clause-headline : goal.returns-in-Some-clause-headline
-returns-in-Some-clause-headline g c =
-    λ none. absurd (not_asked _ _ c.in-Some.is (c.read_asked.ensures.asked ∙ none))
-
-pub returns-in-Some-clause-statuses : goal.returns-in-Some-clause-statuses
-returns-in-Some-clause-statuses g c = rw c.number.ensures.number (told_status _ c.tell.ensures.told)
+pub returns-in-Some-clause-answered : goal.returns-in-Some-clause-answered
+returns-in-Some-clause-answered g c = record {
+  asked = λ _. rw c.number.ensures.number c.tell.ensures.told;
+  unwritten = λ _. rw c.number.ensures.number c.tell.ensures.write;
+  run = λ none. absurd (not_asked _ _ c.in-Some.is (c.read_asked.ensures.asked ∙ none));
+  headline = λ none. absurd (not_asked _ _ c.in-Some.is (c.read_asked.ensures.asked ∙ none));
+  statuses = rw c.number.ensures.number (told_status _ c.tell.ensures.told);
+  unpublished = λ _. refl;
+  frame = rw c.in-Some.ensures.no_job c.tell.ensures.frame;
+}
 
 pub returns-in-Some-clause-same : goal.returns-in-Some-clause-same
 returns-in-Some-clause-same g c = (refl, refl)
 
-pub returns-in-Some-clause-unpublished : goal.returns-in-Some-clause-unpublished
-returns-in-Some-clause-unpublished g c = λ _. refl
-
 pub returns-in-Some-clause-quiet : goal.returns-in-Some-clause-quiet
 returns-in-Some-clause-quiet g c = search rules
 
-pub returns-in-Some-clause-frame : goal.returns-in-Some-clause-frame
-returns-in-Some-clause-frame g c = rw c.in-Some.ensures.no_job c.tell.ensures.frame
-
-pub returns-in-None-clause-asked : goal.returns-in-None-clause-asked
-returns-in-None-clause-asked g c = λ some. absurd (none_asked _ (sym c.read_asked.ensures.asked ∙ c.in-None.is) some)
-
-pub returns-in-None-clause-unwritten : goal.returns-in-None-clause-unwritten
-returns-in-None-clause-unwritten g c =
-    λ some. absurd (none_asked _ (sym c.read_asked.ensures.asked ∙ c.in-None.is) some)
-
-pub returns-in-None-clause-run : goal.returns-in-None-clause-run
-returns-in-None-clause-run g c = λ _. rw c.number-in-None.ensures.number
-    (c.runs_keep_promises.ensures.law (job_named c.args.words.now) (g.D.Desk.state c.args.desk.now) _ _ _ _
-    c.run_words-ending.ensures.ends.ends)
-
-pub returns-in-None-clause-headline : goal.returns-in-None-clause-headline
-returns-in-None-clause-headline g c = λ _. rw c.number-in-None.ensures.number
-    (c.promises_show_the_headline.ensures.law (map string_bytes c.args.words.now) (g.D.Desk.state c.args.desk.now) _ _ _
-    _
-    (c.runs_keep_promises.ensures.law (job_named c.args.words.now) (g.D.Desk.state c.args.desk.now) _ _ _ _
-    c.run_words-ending.ensures.ends.ends))
-
-pub returns-in-None-clause-statuses : goal.returns-in-None-clause-statuses
-returns-in-None-clause-statuses g c =
-    rw c.number-in-None.ensures.number (c.runs_keep_promises.ensures.law (job_named c.args.words.now)
-    (g.D.Desk.state c.args.desk.now) _ _ _ _ c.run_words-ending.ensures.ends.ends).statuses
+pub returns-in-None-clause-answered : goal.returns-in-None-clause-answered
+returns-in-None-clause-answered g c =
+    let s = g.D.Desk.state c.args.desk.now in
+    let asks = none_asked _ (sym c.read_asked.ensures.asked ∙ c.in-None.is) in
+    let kept = c.runs_keep_promises.ensures.law (job_named c.args.words.now) s _ _ _ _ c.run_words-ending.ensures.ends.ends in
+    rw c.number-in-None.ensures.number (record {
+      asked = λ some. absurd (asks some);
+      unwritten = λ some. absurd (asks some);
+      run = λ _. kept;
+      headline = λ _. c.promises_show_the_headline.ensures.law (map string_bytes c.args.words.now) s _ _ _ _ kept;
+      statuses = kept.statuses;
+      unpublished = λ some. absurd (asks some);
+      frame = c.run_words-ending.ensures.frame;
+    })
 
 pub returns-in-None-clause-same : goal.returns-in-None-clause-same
 returns-in-None-clause-same g c = c.run_words-ending.ensures.same
-
-pub returns-in-None-clause-unpublished : goal.returns-in-None-clause-unpublished
-returns-in-None-clause-unpublished g c =
-    λ some. absurd (none_asked _ (sym c.read_asked.ensures.asked ∙ c.in-None.is) some)
 
 pub returns-in-None-clause-quiet : goal.returns-in-None-clause-quiet
 returns-in-None-clause-quiet g c = λ none.
     c.explain.ensures.quiet
     (quiet_by c.run_words-ending.ensures.ends.told (rw c.number-in-None.ensures.number at none))
-
-pub returns-in-None-clause-frame : goal.returns-in-None-clause-frame
-returns-in-None-clause-frame g c = c.run_words-ending.ensures.frame
 
 pub run_words-ending-requires-clause-few : goal.run_words-ending-requires-clause-few
 run_words-ending-requires-clause-few g c = search rules
