@@ -4,4 +4,4 @@
 mod program;
 mod progress;
 
-pub use program::start;
+pub use program::{start, start_at};

@@ -1,10 +1,15 @@
 //! The program from its start: its words, and its exit status.
 
-ghost use Rattle.std.specs.Prelude.{◌≡◌, drop};
+ghost use Rattle.std.specs.Prelude.{◌≡◌, [], List, drop, false, map, string_bytes};
+ghost use Rattle.std.specs.Io.KnownBytes.{Keeps};
+ghost use Rattle.sbpl_cli.specs.Answered.{IsAnswered};
+ghost use Rattle.sbpl_cli.specs.sbpl_promises.Explained.{has_message};
 ghost use Rattle.sbpl_cli.specs.sbpl_promises.Promises.{IsStatus};
+ghost use Rattle.sbpl_cli.specs.sbpl_promises.Published.{Entry};
+ghost use Rattle.sbpl_main.specs.Given.{words_given};
 
-use crate::progress::answer_at_terminal;
-use sbpl_cli::{Board, LiveBoard, NoGate, RealDesk, Status, answer};
+use crate::progress::answer_on;
+use sbpl_cli::{Board, Desk, RealDesk, Status, runs_may_end_at_once};
 use std::io::IsTerminal;
 use std::rt::{Env, Files};
 use std::sync::Wait;
@@ -27,6 +32,60 @@ fn after_name(words: &[String]) -> &[String]
     }
 }
 
+/// Does what the words after the program's name ask for at a desk, and answers the status, and the desk. Where the job was not done, a
+/// line on `err` says why. Where `err` is a terminal, the newest path is shown on its last line while the planner works.
+pub fn start_at<R: AllocGlobal + Threads + Wait + Clock + Sync, D: Desk, E: io::Write + Send>(
+    rt: &R,
+    words: &[String],
+    desk: D,
+    err: &mut E,
+    is_terminal: bool,
+) -> (u8, D)
+    // Every promise of `answer`, at this desk, where nothing was published before.
+    ensures answered { (published : List Entry) × IsAnswered (map string_bytes words.now) (D.state desk) (D.state result.1) []
+        published result.0 }
+    // At no terminal a message comes with the statuses 2 to 7 and 10 alone.
+    ensures quiet { is_terminal ≡ false → has_message result.0 ≡ false → Keeps (E.contents err.old) (E.contents err.new) }
+{
+    runs_may_end_at_once();
+    match Board::new(rt.alloc()) {
+        Ok((board, mut publisher)) => answer_on(
+            rt,
+            words,
+            desk,
+            err,
+            is_terminal,
+            &board,
+            &mut publisher,
+        ),
+        Err(_) => (Status::NoMemory.number(), desk),
+    }
+}
+
+/// Does what `start_at` does for the words that the system handed over, the program's name first. A word that isn't text names no
+/// job, like no word at all.
+fn start_given<R: AllocGlobal + Threads + Wait + Clock + Sync, D: Desk, E: io::Write + Send>(
+    rt: &R,
+    given: &io::Result<Vec<String>>,
+    desk: D,
+    err: &mut E,
+    is_terminal: bool,
+) -> (u8, D)
+    ensures answered { (published : List Entry) × IsAnswered (words_given given.now) (D.state desk) (D.state result.1) []
+        published result.0 }
+    ensures quiet { is_terminal ≡ false → has_message result.0 ≡ false → Keeps (E.contents err.old) (E.contents err.new) }
+{
+    runs_may_end_at_once();
+    match given {
+        Ok(words) => start_at(rt, after_name(words.as_slice()), desk, err, is_terminal),
+        Err(error) if error.kind() == io::ErrorKind::OutOfMemory => (
+            Status::NoMemory.number(),
+            desk,
+        ),
+        Err(_) => start_at(rt, &[], desk, err, is_terminal),
+    }
+}
+
 /// Does what the program's words ask for, at the system's files and standard output, and answers the status, which is one of
 /// those that the help lists. Where the job was not done, a line on `err` says why. Where `err` is a terminal, the newest path is
 /// shown on its last line while the planner works.
@@ -36,21 +95,7 @@ pub fn start<
 >(rt: &R, err: &mut E) -> u8
     ensures status { IsStatus result }
 {
-    let words = match words_of(rt) {
-        Ok(words) => words,
-        Err(error) if error.kind() == io::ErrorKind::OutOfMemory =>
-            return Status::NoMemory.number(),
-        // A word that isn't text names no job, like no word at all.
-        Err(_) => Vec::new(rt.alloc()),
-    };
-    let words = after_name(words.as_slice());
-    let Ok((board, mut publisher)) = Board::new(rt.alloc()) else {
-        return Status::NoMemory.number();
-    };
-    if err.is_terminal() {
-        return answer_at_terminal(rt, words, err, &board, &mut publisher);
-    }
-    let mut desk = RealDesk::new(rt);
-    let mut live = LiveBoard::new(rt, &board, &mut publisher);
-    answer(rt.alloc(), words, &mut live, &mut desk, &NoGate, err)
+    let is_terminal = err.is_terminal();
+    let (status, _desk) = start_given(rt, &words_of(rt), RealDesk::new(rt), err, is_terminal);
+    status
 }

@@ -1,15 +1,16 @@
 //! The newest path, shown to people while the planner works.
 
-ghost use Rattle.std.specs.Prelude.{◌≡◌, ◌<◌, ◌^◌, length};
-ghost use Rattle.sbpl_cli.specs.sbpl_promises.Promises.{IsStatus};
+ghost use Rattle.std.specs.Prelude.{◌≡◌, ◌<◌, ◌^◌, false, length, map, string_bytes};
+ghost use Rattle.std.specs.Io.KnownBytes.{Keeps};
+ghost use Rattle.sbpl_cli.specs.Answered.{IsAnswered};
+ghost use Rattle.sbpl_cli.specs.sbpl_promises.Explained.{has_message};
 
 use sbpl_cli::{
-    Board, Desk, Entry, LiveBoard, NoGate, Publisher, ReadStop, Reader, RealDesk, Status,
-    WriteStop, answer,
+    Board, Desk, Entry, LiveBoard, NoGate, Publisher, ReadStop, Reader, Status, WriteStop, answer,
+    runs_may_end_at_once,
 };
 use std::alloc::{AllocError, Global};
 use std::io;
-use std::rt::Files;
 use std::sync::{Mutex, Wait};
 use std::thread::{self, Threads};
 use std::time::{Clock, Duration, Instant};
@@ -58,20 +59,6 @@ struct ConsoleDesk<'r, 'c, 'e, R, D, E> {
     rt: &'r R,
     desk: D,
     console: &'c Mutex<Console<'e, E>>,
-}
-
-impl<'r, 'c, 'e, R: Files + Print + AllocGlobal, E> ConsoleDesk<'r, 'c, 'e, R, RealDesk<&'r R>, E> {
-    /// The system's files and standard output.
-    fn new(
-        rt: &'r R,
-        console: &'c Mutex<Console<'e, E>>,
-    ) -> ConsoleDesk<'r, 'c, 'e, R, RealDesk<&'r R>, E> {
-        ConsoleDesk {
-            rt,
-            desk: RealDesk::new(rt),
-            console,
-        }
-    }
 }
 
 impl<R: Wait, D: Desk, E: io::Write> Desk for ConsoleDesk<'_, '_, '_, R, D, E> {
@@ -130,7 +117,10 @@ fn answer_live<R: Threads + Wait + Sync, D: Desk, E: io::Write>(
 ) -> u8
     requires board { publisher.old.board ≡ board.now }
     requires few { length publisher.old.published < 2 ^ 62 }
-    ensures status { IsStatus result }
+    ensures answered { IsAnswered (map string_bytes words.now) (D.state desk.old) (D.state desk.new) publisher.old.published
+        publisher.new.published result }
+    ensures board { publisher.new.board ≡ publisher.old.board }
+    ensures quiet { has_message result ≡ false → Keeps (E.contents err.old) (E.contents err.new) }
 {
     let mut live = LiveBoard::new(rt, board, publisher);
     answer(alloc, words, &mut live, desk, &NoGate, err)
@@ -148,8 +138,11 @@ fn answer_beside<R: Threads + Wait + Clock + Sync, D: Desk, E: io::Write + Send>
 ) -> u8
     requires board { publisher.old.board ≡ board.now }
     requires few { length publisher.old.published < 2 ^ 62 }
-    ensures status { IsStatus result }
+    ensures answered { IsAnswered (map string_bytes words.now) (D.state desk.old) (D.state desk.new) publisher.old.published
+        publisher.new.published result }
+    ensures board { publisher.new.board ≡ publisher.old.board }
 {
+    runs_may_end_at_once();
     let Ok(mut reader) = board.reader(publisher) else {
         return Status::NoMemory.number();
     };
@@ -159,7 +152,9 @@ fn answer_beside<R: Threads + Wait + Clock + Sync, D: Desk, E: io::Write + Send>
     { show(rt, alloc, board, &mut reader, console) };
     let mut answers = || -> u8
         requires { (publisher.now.board ≡ board.now) × (length publisher.now.published < 2 ^ 62) }
-        ensures { IsStatus result }
+        ensures answered { IsAnswered (map string_bytes words.entry.now) (D.state desk.entry.now) (D.state desk.exit.now)
+            publisher.entry.now.published publisher.exit.now.published result }
+        ensures board { publisher.exit.now.board ≡ publisher.entry.now.board }
     {
         let status = answer_live(rt, alloc, words, desk, &mut message, board, publisher);
         console.lock(rt).end();
@@ -170,17 +165,58 @@ fn answer_beside<R: Threads + Wait + Clock + Sync, D: Desk, E: io::Write + Send>
     status
 }
 
-/// Does what `answer` does at the system's files and standard output, and shows the newest path on the last line of a terminal
-/// while the planner works. Nothing that the run writes depends on it.
-pub(crate) fn answer_at_terminal<
-    R: Files + Print + AllocGlobal + Threads + Wait + Clock + Sync,
-    E: io::Write + Send,
->(rt: &R, words: &[String], err: &mut E, board: &Board, publisher: &mut Publisher) -> u8
+/// Does what `answer` does at this desk, and shows the newest path on the last line of a terminal while the planner works. Nothing
+/// that the run writes depends on it. It answers the status, and the desk.
+fn answer_at_terminal<R: AllocGlobal + Threads + Wait + Clock + Sync, D: Desk, E: io::Write + Send>(
+    rt: &R,
+    words: &[String],
+    desk: D,
+    err: &mut E,
+    board: &Board,
+    publisher: &mut Publisher,
+) -> (u8, D)
     requires board { publisher.old.board ≡ board.now }
     requires few { length publisher.old.published < 2 ^ 62 }
-    ensures status { IsStatus result }
+    ensures answered { IsAnswered (map string_bytes words.now) (D.state desk) (D.state result.1) publisher.old.published
+        publisher.new.published result.0 }
+    ensures board { publisher.new.board ≡ publisher.old.board }
 {
     let console = Mutex::new(Console { err, shows: true });
-    let mut desk = ConsoleDesk::new(rt, &console);
-    answer_beside(rt, rt.alloc(), words, &mut desk, board, publisher, &console)
+    let mut desk = ConsoleDesk {
+        rt,
+        desk,
+        console: &console,
+    };
+    let status = answer_beside(rt, rt.alloc(), words, &mut desk, board, publisher, &console);
+    (status, desk.desk)
+}
+
+/// Does what `answer` does at this desk with this board, and answers the status, and the desk. Where `err` is a terminal, the newest
+/// path is shown on its last line while the planner works.
+pub(crate) fn answer_on<
+    R: AllocGlobal + Threads + Wait + Clock + Sync,
+    D: Desk,
+    E: io::Write + Send,
+>(
+    rt: &R,
+    words: &[String],
+    desk: D,
+    err: &mut E,
+    is_terminal: bool,
+    board: &Board,
+    publisher: &mut Publisher,
+) -> (u8, D)
+    requires board { publisher.old.board ≡ board.now }
+    requires few { length publisher.old.published < 2 ^ 62 }
+    ensures answered { IsAnswered (map string_bytes words.now) (D.state desk) (D.state result.1) publisher.old.published
+        publisher.new.published result.0 }
+    ensures board { publisher.new.board ≡ publisher.old.board }
+    ensures quiet { is_terminal ≡ false → has_message result.0 ≡ false → Keeps (E.contents err.old) (E.contents err.new) }
+{
+    if is_terminal {
+        return answer_at_terminal(rt, words, desk, err, board, publisher);
+    }
+    let mut desk = desk;
+    let status = answer_live(rt, rt.alloc(), words, &mut desk, err, board, publisher);
+    (status, desk)
 }

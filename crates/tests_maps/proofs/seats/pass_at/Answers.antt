@@ -20,31 +20,35 @@ seated seats most few (Ok p) below = wider seats most few p.journal.events below
 seated seats most few (Err e) below = tt
 
 pub workers_at-workers-requires : goal.workers_at-workers-requires
-workers_at-workers-requires g c = c.requires.crew.some
+workers_at-workers-requires g c = record { some = c.requires.can.crew.some }
 
 pub parallel_pass_parts-requires : goal.parallel_pass_parts-requires
 parallel_pass_parts-requires g c =
-    let can = c.requires in
+    let can = c.requires.can in
     record {
-      guide = can.guide;
-      eps_low = can.eps_low;
-      eps_high = can.eps_high;
-      goal = can.goal;
-      crew = record {
-        some = c.workers_at-workers.ensures.some;
-        few = omega (arith, c.workers_at-workers.ensures.few, can.crew.few);
+      can = record {
+        guide = can.guide;
+        eps_low = can.eps_low;
+        eps_high = can.eps_high;
+        goal = can.goal;
+        crew = record {
+          some = c.workers_at-workers.ensures.some;
+          few = omega (arith, c.workers_at-workers.ensures.few, can.crew.few);
+        };
+        ready = can.ready;
+        over = can.over;
       };
-      ready = can.ready;
-      over = can.over;
     }
 
 pub returns : goal.returns
 returns g c =
-    let left = c.parallel_pass_parts.ensures in
+    let left = c.parallel_pass_parts.ensures.left in
     record {
-      finished = left.finished;
-      seats = seated _ _ c.workers_at-workers.ensures.few c.parallel_pass_parts.result left.seats;
-      over = left.over;
-      given_up = left.given_up;
-      over_left = left.over_left;
+      left = record {
+        finished = left.finished;
+        seats = seated _ _ c.workers_at-workers.ensures.few c.parallel_pass_parts.result left.seats;
+        over = left.over;
+        given_up = left.given_up;
+        over_left = left.over_left;
+      };
     }
