@@ -24,4 +24,4 @@ pub use name::Name;
 pub use read::{command_named, read_job};
 pub use sbpl_fixed::{NoMemory, next_token, print_milli, read_whole};
 pub use values::{back_of, budget_of, milli_by, planner_of, radius_of, workers_of};
-pub use words::{Command, Setting, spaced_words, words_part_into_forms};
+pub use words::{Command, Setting, is_plain, setting_of, spaced_words, words_part_into_forms};

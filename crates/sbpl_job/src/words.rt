@@ -56,7 +56,7 @@ pub enum Setting {
 }
 
 /// Whether a word is plain: not empty, and it does not begin with `-`.
-fn is_plain(word: &str) -> bool
+pub fn is_plain(word: &str) -> bool
     ensures plain { result ≡ is_plain_word word.now }
 {
     match word.as_bytes() {
@@ -104,7 +104,7 @@ fn takes(command: Command, setting: Setting) -> bool
 }
 
 /// What a word sets, if it is the name of a setting that the command takes.
-fn setting_of(command: Command, word: &str) -> Option<Setting>
+pub fn setting_of(command: Command, word: &str) -> Option<Setting>
     ensures setting { result ≡ setting_of command word.now }
 {
     let setting = setting_named(word)?;
