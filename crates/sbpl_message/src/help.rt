@@ -41,7 +41,7 @@ Statuses:
 ";
 
 /// How a command is called, without its words.
-fn call_of(command: Command) -> &'static str {
+pub(crate) fn call_of(command: Command) -> &'static str {
     match command {
         Command::Plan => "temjoask plan",
         Command::Check => "temjoask check",

@@ -2,6 +2,8 @@
 #![tactic(auto)]
 
 mod help;
+mod tip;
+mod unfit;
 mod value;
 mod wrong;
 

@@ -2,13 +2,18 @@
 
 use clap::ArgMatches;
 use sbpl_job::{
-    Command, back_of, budget_of, form_named, milli_by, planner_of, radius_of, read_extent,
+    Command, Setting, back_of, budget_of, form_named, milli_by, planner_of, radius_of, read_extent,
     read_seed, workers_of,
 };
 
 /// A value that can be wrong.
 #[derive(Clone, Copy)]
 pub(crate) enum Value {
+    Env,
+    Prims,
+    /// The file of labels that are checked.
+    LabelsFile,
+    Changes,
     Radius,
     First,
     Step,
@@ -21,13 +26,55 @@ pub(crate) enum Value {
     Back,
     Workers,
     Budget,
+    /// The file of labels that are written.
+    Labels,
     LabelsAs,
+    Trace,
+    Incumbent,
     Seed,
     Width,
     Height,
 }
 
-/// The values of a command, in the order in which they are looked at.
+/// The plain words of a command, in order.
+pub(crate) fn plain_values(command: Command) -> &'static [Value] {
+    match command {
+        Command::Plan | Command::Sweep => &[Value::Env, Value::Prims],
+        Command::Check => &[Value::Env, Value::Prims, Value::LabelsFile],
+        Command::Demo => &[Value::Seed, Value::Width, Value::Height],
+        Command::Nav => &[Value::Env],
+        Command::NavCheck => &[Value::Env, Value::LabelsFile],
+    }
+}
+
+/// The planner that a command can be given.
+fn planner_set(command: Command) -> Value {
+    match command {
+        Command::Check => Value::Back,
+        Command::Nav => Value::GridPlanner,
+        _ => Value::Planner,
+    }
+}
+
+/// What a setting of a command sets.
+pub(crate) fn value_set(command: Command, setting: Setting) -> Value {
+    match setting {
+        Setting::Changes => Value::Changes,
+        Setting::Radius => Value::Radius,
+        Setting::Planner => planner_set(command),
+        Setting::Workers => Value::Workers,
+        Setting::First => Value::First,
+        Setting::Step => Value::Step,
+        Setting::Bound => Value::Bound,
+        Setting::Budget => Value::Budget,
+        Setting::Labels => Value::Labels,
+        Setting::LabelsAs => Value::LabelsAs,
+        Setting::Trace => Value::Trace,
+        Setting::Incumbent => Value::Incumbent,
+    }
+}
+
+/// The numbers and choices of a command, in the order in which they are looked at.
 fn values_of(command: Command) -> &'static [Value] {
     match command {
         Command::Plan => PLAN,
@@ -62,40 +109,59 @@ const NAV: &[Value] = &[
     Value::LabelsAs,
 ];
 
-/// The argument that has a value.
-pub(crate) fn id_of(value: Value) -> &'static str {
+/// How the words of a command name a value.
+pub(crate) fn name_of(value: Value) -> &'static str {
     match value {
-        Value::Radius => "radius",
-        Value::First => "first",
-        Value::Step => "step",
-        Value::Bound => "bound",
-        Value::Planner | Value::GridPlanner | Value::Back => "planner",
-        Value::Workers => "workers",
-        Value::Budget => "budget",
-        Value::LabelsAs => "labels-as",
+        Value::Env => "ENV",
+        Value::Prims => "MPRIM",
+        Value::LabelsFile => "LABELS",
+        Value::Changes => "--changes",
+        Value::Radius => "--radius",
+        Value::First => "--first",
+        Value::Step => "--step",
+        Value::Bound => "--bound",
+        Value::Planner | Value::GridPlanner | Value::Back => "--planner",
+        Value::Workers => "--workers",
+        Value::Budget => "--budget",
+        Value::Labels => "--labels",
+        Value::LabelsAs => "--labels-as",
+        Value::Trace => "--trace",
+        Value::Incumbent => "--incumbent",
         Value::Seed => "SEED",
         Value::Width => "W",
         Value::Height => "H",
     }
 }
 
+/// The argument that has a value.
+fn id_of(value: Value) -> &'static str {
+    let name = name_of(value);
+    name.strip_prefix("--").unwrap_or(name)
+}
+
+/// The text that a command is given for a value.
+pub(crate) fn given<'a>(value: Value, matches: &ArgMatches<'a>) -> Option<&'a str> {
+    matches.get_str(id_of(value))
+}
+
 /// What a value must be.
 pub(crate) fn wanted(value: Value) -> &'static str {
     match value {
-        Value::Radius => "--radius must be a decimal from 0 to 1000, in metres",
-        Value::First => "--first must be a decimal from 1 to 100, in whole thousandths",
-        Value::Step => "--step must be a decimal from 0.001 to 99, in whole thousandths",
-        Value::Bound => "--bound must be a decimal from 1 to 100, in whole thousandths",
-        Value::Planner => "--planner must be ad, ara, back or epase",
-        Value::GridPlanner => "--planner must be ad, ara or epase",
-        Value::Back => "--planner must be back",
-        Value::Workers =>
-            "--workers must be a whole number from 1 to 64, and goes with --planner epase",
-        Value::Budget => "--budget must be a whole number from 1 to 1073741824",
-        Value::LabelsAs => "--labels-as must be 1 or 2, and goes with --labels",
-        Value::Seed => "SEED must be a whole number from 0 to 2^64 - 1",
-        Value::Width => "W must be a whole number from 8 to 512",
-        Value::Height => "H must be a whole number from 8 to 512",
+        Value::Env | Value::Prims | Value::LabelsFile | Value::Changes =>
+            "a file to read, whose name is not empty and does not begin with \"-\"",
+        Value::Labels | Value::Trace | Value::Incumbent =>
+            "a file to write, whose name is not empty and does not begin with \"-\"",
+        Value::Radius => "a decimal from 0 to 1000, in metres",
+        Value::First | Value::Bound => "a decimal from 1 to 100, in whole thousandths",
+        Value::Step => "a decimal from 0.001 to 99, in whole thousandths",
+        Value::Planner => "ad, ara, back or epase",
+        Value::GridPlanner => "ad, ara or epase",
+        Value::Back => "back",
+        Value::Workers => "a whole number from 1 to 64, and goes with --planner epase",
+        Value::Budget => "a whole number from 1 to 1073741824",
+        Value::LabelsAs => "1 or 2, and goes with --labels",
+        Value::Seed => "a whole number from 0 to 2^64 - 1",
+        Value::Width | Value::Height => "a whole number from 8 to 512",
     }
 }
 
@@ -123,9 +189,9 @@ fn is_form_right(matches: &ArgMatches) -> bool {
     }
 }
 
-/// Whether a value is right, or not given.
+/// Whether a number or a choice is right, or not given.
 fn is_right(value: Value, matches: &ArgMatches) -> bool {
-    let given = matches.get_str(id_of(value));
+    let given = given(value, matches);
     match value {
         Value::Radius => radius_of(matches).is_ok(),
         Value::First | Value::Bound => milli_by(given, 1000, 1000, 100_000).is_ok(),
@@ -138,14 +204,46 @@ fn is_right(value: Value, matches: &ArgMatches) -> bool {
         Value::LabelsAs => is_form_right(matches),
         Value::Seed => read_seed(given.unwrap_or("")).is_ok(),
         Value::Width | Value::Height => read_extent(given.unwrap_or("")).is_ok(),
+        _ => true,
     }
 }
 
-/// The first value of a command that is wrong.
+/// The first number or choice of a command that is wrong.
 pub(crate) fn wrong_value(command: Command, matches: &ArgMatches) -> Option<Value> {
     for value in values_of(command) {
         if !is_right(*value, matches) {
             return Some(*value);
+        }
+    }
+    None
+}
+
+/// The files that a plan reads.
+const READ: &[Value] = &[Value::Env, Value::Prims, Value::Changes];
+
+/// The files that it writes.
+const WRITTEN: &[Value] = &[Value::Labels, Value::Trace, Value::Incumbent];
+
+/// Which of these files a file is, too, if it is given and is one.
+fn same_as(value: Value, others: &[Value], matches: &ArgMatches) -> Option<Value> {
+    let name = given(value, matches)?;
+    for other in others {
+        if given(*other, matches) == Some(name) {
+            return Some(*other);
+        }
+    }
+    None
+}
+
+/// A file and one that is written, which are the same, if there are such.
+pub(crate) fn same_files(matches: &ArgMatches) -> Option<(Value, Value)> {
+    for i in 0..WRITTEN.len() {
+        let written = WRITTEN[i];
+        if let Some(other) = same_as(written, READ, matches) {
+            return Some((other, written));
+        }
+        if let Some(other) = same_as(written, &WRITTEN[..i], matches) {
+            return Some((other, written));
         }
     }
     None
