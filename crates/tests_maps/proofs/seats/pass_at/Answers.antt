@@ -1,4 +1,4 @@
-use Rattle.std.proofs.Common.{ℕ, ◌≤◌, ◌<◌, IfOk, List, Result, Ok, Err, arith}
+use Rattle.std.proofs.Common.{ℕ, ◌≤◌, IfOk, List, Result, Ok, Err, arith}
 use Rattle.sbpl_epase.specs.declared.passed.Passed.{Passed}
 use Rattle.sbpl_epase.specs.sbpl_frontier_rules.declared.event.Event.{Event}
 use Rattle.sbpl_epase.specs.sbpl_frontier_rules.declared.event.Event.TheVariants.{Opened, Posted, Taken}
@@ -22,22 +22,20 @@ seated seats most few (Err e) below = tt
 pub workers_at-workers-requires : goal.workers_at-workers-requires
 workers_at-workers-requires g c = record { some = c.requires.can.crew.some }
 
-pub parallel_pass_parts-requires : goal.parallel_pass_parts-requires
-parallel_pass_parts-requires g c =
+pub parallel_pass_parts-requires-clause-can : goal.parallel_pass_parts-requires-clause-can
+parallel_pass_parts-requires-clause-can g c κs within =
     let can = c.requires.can in
     record {
-      can = record {
-        guide = can.guide;
-        eps_low = can.eps_low;
-        eps_high = can.eps_high;
-        goal = can.goal;
-        crew = record {
-          some = c.workers_at-workers.ensures.some;
-          few = omega (arith, c.workers_at-workers.ensures.few, can.crew.few);
-        };
-        ready = can.ready;
-        over = can.over;
+      guide = can.guide;
+      eps_low = can.eps_low;
+      eps_high = can.eps_high;
+      goal = can.goal;
+      crew = record {
+        some = c.workers_at-workers.ensures.some;
+        few = omega (arith, c.workers_at-workers.ensures.few, can.crew.few);
       };
+      ready = can.ready;
+      over = can.over;
     }
 
 pub returns : goal.returns
