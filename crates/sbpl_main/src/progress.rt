@@ -18,8 +18,17 @@ use std::time::{Clock, Duration, Instant};
 /// How long the board is left alone between two looks at it, in milliseconds.
 const BETWEEN_LOOKS: u64 = 50;
 
+/// How long nothing is shown where no path is published yet, in tenths of a second: most runs end before.
+const BEFORE_FIRST: u128 = 5;
+
 /// Goes to the beginning of the line, and clears it.
 const CLEAR_LINE: &[u8] = b"\r\x1b[K";
+
+/// The same, and has what follows cut at the terminal's edge and not go on in the next line.
+const BEGIN_LINE: &str = "\r\x1b[?7l\x1b[K";
+
+/// Lets later lines go on in the next one again.
+const END_LINE: &str = "\x1b[?7h";
 
 /// A terminal, and whether the newest path is still shown on its last line.
 #[derive(Drop)]
@@ -28,19 +37,34 @@ struct Console<'e, E> {
     shows: bool,
 }
 
-/// What shows a path, and the time since the run began, in place of what stood on the line.
-fn line_of(alloc: Global, entry: &Entry, time: Duration) -> Result<String, AllocError> {
+/// What the line says this long after the run began: the newest path, or after a while that the program is at work.
+fn text_of(alloc: Global, newest: Option<Entry>, time: Duration) -> Result<String, AllocError> {
     let tenths = time.as_millis() / 100;
-    format!(in alloc;
-        "\r\x1b[Kplan {} pass {} cost {} bound {}.{:03}, {}.{} s",
-        entry.plan,
-        entry.pass,
-        entry.cost,
-        entry.bound / 1000,
-        entry.bound % 1000,
-        tenths / 10,
-        tenths % 10
-    )
+    let (seconds, tenth) = (tenths / 10, tenths % 10);
+    match newest {
+        Some(entry) => format!(in alloc;
+            "plan {} pass {} cost {} bound {}.{:03}, {seconds}.{tenth} s",
+            entry.plan,
+            entry.pass,
+            entry.cost,
+            entry.bound / 1000,
+            entry.bound % 1000
+        ),
+        None if tenths >= BEFORE_FIRST => format!(in alloc; "working, {seconds}.{tenth} s"),
+        None => Ok(String::new(alloc)),
+    }
+}
+
+/// What puts that in place of what stood on the line; nothing where there is nothing to say.
+fn line_of(alloc: Global, newest: Option<Entry>, time: Duration) -> Result<String, AllocError> {
+    let text = text_of(alloc, newest, time)?;
+    if text.is_empty() {
+        return Ok(text);
+    }
+    let mut line = String::from_str(alloc, BEGIN_LINE)?;
+    line.push_str(text.as_str())?;
+    line.push_str(END_LINE)?;
+    Ok(line)
 }
 
 impl<E: io::Write> Console<'_, E> {
@@ -74,7 +98,7 @@ impl<R: Wait, D: Desk, E: io::Write> Desk for ConsoleDesk<'_, '_, '_, R, D, E> {
     }
 }
 
-/// Shows the newest path on a board until the console shows nothing more.
+/// Shows the newest path on a board, and how long the run has taken, until the console shows nothing more.
 fn show<R: Wait + Clock, E: io::Write>(
     rt: &R,
     alloc: Global,
@@ -88,9 +112,10 @@ fn show<R: Wait + Clock, E: io::Write>(
         return;
     };
     for _ in 0..u64::MAX {
-        let line = match (board.read(rt, reader), Instant::now(rt)) {
-            (Some(entry), Ok(now)) => line_of(alloc, &entry, now.saturating_duration_since(began)),
-            _ => Ok(String::new(alloc)),
+        let newest = board.read(rt, reader);
+        let line = match Instant::now(rt) {
+            Ok(now) => line_of(alloc, newest, now.saturating_duration_since(began)),
+            Err(_) => Ok(String::new(alloc)),
         };
         let mut locked = console.lock(rt);
         if !locked.shows {
