@@ -13,7 +13,8 @@ ghost use Rattle.sbpl_cli.specs.Answered.{IsAnswered};
 
 use sbpl_headline::promises_show_the_headline;
 use sbpl_jobs::{
-    Asked, Desk, Ending, Gate, LiveBoard, Status, read_asked, run_words, status_after, told,
+    Asked, Desk, Ending, Gate, LiveBoard, Status, Trouble, read_asked, run_words, status_after,
+    told,
 };
 use sbpl_laws::runs_keep_promises;
 use std::alloc::Global;
@@ -34,12 +35,13 @@ fn tell<D: Desk>(alloc: Global, asked: Asked, desk: &mut D) -> Status
     status_after(desk.write("-", text.as_bytes()), Status::Done)
 }
 
-/// Tells on `err` why a run that ended so did not do its job, if it did not.
-fn explain<E: io::Write>(ending: &Ending, err: &mut E)
+/// Tells on `err` why a run that ended so did not do its job, if it did not. Where nobody reads the output any more, as after
+/// `| head`, there is nothing to tell.
+fn explain<E: io::Write>(ending: &Ending, trouble: Trouble, err: &mut E)
     ensures quiet { message_of ending.now ≡ [] → Keeps (E.contents err.old) (E.contents err.new) }
 {
     let message = ending.message();
-    if !message.is_empty() {
+    if !message.is_empty() && trouble != Trouble::Unread {
         // The status says it all where even this cannot be written.
         let _ = err.write_all(message);
     }
@@ -72,7 +74,7 @@ pub fn answer<R: Threads + Wait + Sync, D: Desk, T: Gate + Sync, E: io::Write>(
         Some(asked) => tell(alloc, asked, desk).number(),
         None => {
             let ending = run_words(alloc, words, live, desk, gate);
-            explain(&ending, err);
+            explain(&ending, desk.trouble(), err);
             ending.status.number()
         }
     }

@@ -36,6 +36,21 @@ pub enum WriteStop {
     NoMemory,
 }
 
+/// What was in the way where the outside failed, as far as it says. It is for messages to people: no clause speaks of it.
+#[derive(Clone, Copy, Debug, PartialEq, Eq)]
+pub enum Trouble {
+    /// The outside does not say.
+    Untold,
+    /// There is no such file.
+    Missing,
+    /// The name is that of a folder.
+    Folder,
+    /// The program is not allowed to.
+    Forbidden,
+    /// Nobody reads what is written any more.
+    Unread,
+}
+
 impl From<AllocError> for ReadStop {
     ghost from_gives = { λ _ stop. stop ≡ ReadStops.NoMemory };
 
@@ -106,4 +121,9 @@ pub trait Desk {
             ((state self.new).written name.now) }
         ensures failed { IsErrOf result WriteStop.Failed → WriteFailed (state self.old) (state self.new) name.now }
         ensures frame { WritesOnly (λ other. other ≡ name.now) (state self.old) (state self.new) };
+
+    /// What was in the way in the last call that failed.
+    fn trouble(&self) -> Trouble {
+        Trouble::Untold
+    }
 }

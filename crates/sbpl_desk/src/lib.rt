@@ -5,6 +5,6 @@ mod desk;
 mod memory;
 mod real;
 
-pub use desk::{Desk, ReadStop, WriteStop};
+pub use desk::{Desk, ReadStop, Trouble, WriteStop};
 pub use memory::MemoryDesk;
 pub use real::RealDesk;

@@ -7,7 +7,7 @@ ghost use Rattle.sbpl_desk.specs.Desk.{Appends, AppendsPrefix, TooLongWhere};
 ghost use Rattle.sbpl_desk.specs.Real.{real_read_faults, real_state, real_write_faults};
 
 use crate::desk::MOST;
-use crate::{Desk, ReadStop, WriteStop};
+use crate::{Desk, ReadStop, Trouble, WriteStop};
 use std::fs::{Metadata, OpenFile, OpenOptions};
 use std::io::{Read, Write};
 use std::os::unix::fs::MetadataExt;
@@ -32,6 +32,17 @@ fn id_of(metadata: &Metadata) -> Option<FileId> {
     })
 }
 
+/// What an error of the system says was in the way.
+fn trouble_of(error: &io::Error) -> Trouble {
+    match error.kind() {
+        io::ErrorKind::NotFound => Trouble::Missing,
+        io::ErrorKind::IsADirectory => Trouble::Folder,
+        io::ErrorKind::PermissionDenied => Trouble::Forbidden,
+        io::ErrorKind::BrokenPipe => Trouble::Unread,
+        _ => Trouble::Untold,
+    }
+}
+
 /// The files of the system and the standard output. It tells no bytes.
 ///
 /// A file that was read, or that is written under another name, is not written: the write fails, and the file stays as it is. Files
@@ -46,6 +57,7 @@ pub struct RealDesk<R: Files + Print + Alloc> {
     begun: Vec<String<R::A>, R::A>,
     /// The files that were read or written.
     used: Vec<FileId, R::A>,
+    trouble: Trouble,
     read_faults: u64,
     write_faults: u64,
 }
@@ -63,6 +75,7 @@ impl<R: Files + Print + Alloc> RealDesk<R> {
             rt,
             begun,
             used,
+            trouble: Trouble::Untold,
             read_faults: 0,
             write_faults: 0,
         }
@@ -106,7 +119,11 @@ fn read_whole<F: Read>(file: &mut F, into: &mut Vec<u8>) -> Result<(), ReadStop>
 }
 
 /// Writes all of the bytes, in as many calls as it takes.
-fn write_whole<W: Write>(to: &mut W, bytes: &[u8]) -> Result<(), WriteStop>
+fn write_whole<W: Write>(
+    to: &mut W,
+    bytes: &[u8],
+    trouble: &mut Trouble,
+) -> Result<(), WriteStop>
     ensures bytes { OnOk result (Appends (W.contents to.old) (W.contents to.new) bytes.now) }
     ensures prefix { OnErr result (AppendsPrefix (W.contents to.old) (W.contents to.new) bytes.now) }
     ensures failed { result ≢ Err WriteStop.NoMemory }
@@ -115,7 +132,11 @@ fn write_whole<W: Write>(to: &mut W, bytes: &[u8]) -> Result<(), WriteStop>
     while !rest.is_empty() {
         match to.write(rest) {
             Ok(count) if count > 0 => rest = &rest[count..],
-            _ => return Err(WriteStop::Failed),
+            Ok(_) => return Err(WriteStop::Failed),
+            Err(error) => {
+                *trouble = trouble_of(&error);
+                return Err(WriteStop::Failed);
+            }
         }
     }
     Ok(())
@@ -125,18 +146,27 @@ fn write_whole<W: Write>(to: &mut W, bytes: &[u8]) -> Result<(), WriteStop>
 fn read_file<R: Files + Alloc>(
     rt: &R,
     used: &mut Vec<FileId, R::A>,
+    trouble: &mut Trouble,
     name: &str,
     into: &mut Vec<u8>,
 ) -> Result<(), ReadStop>
     requires empty { into.old.items ≡ [] }
     ensures bounded { OnOk result (vec_len into.new ≤ 2 ^ 30) }
 {
-    let Ok(mut file) = fs::open(rt, name) else {
-        return Err(ReadStop::Failed);
+    let mut file = match fs::open(rt, name) {
+        Ok(file) => file,
+        Err(error) => {
+            *trouble = trouble_of(&error);
+            return Err(ReadStop::Failed);
+        }
     };
     let Ok(metadata) = file.metadata() else {
         return Err(ReadStop::Failed);
     };
+    if metadata.is_dir() {
+        *trouble = Trouble::Folder;
+        return Err(ReadStop::Failed);
+    }
     if let Some(id) = id_of(&metadata) {
         used.push(id)?;
     }
@@ -200,7 +230,14 @@ impl<R: Files + Print + Alloc> Desk for RealDesk<R> {
         ensures writes { real_write_faults self.new ≡ real_write_faults self.old }
     {
         into.clear();
-        let result = read_file(&self.rt, &mut self.used, name, into);
+        self.trouble = Trouble::Untold;
+        let result = read_file(
+            &self.rt,
+            &mut self.used,
+            &mut self.trouble,
+            name,
+            into,
+        );
         if let Err(stop) = result {
             into.clear();
             if stop == ReadStop::Failed {
@@ -215,11 +252,12 @@ impl<R: Files + Print + Alloc> Desk for RealDesk<R> {
         ensures writes { real_write_faults self.new ≡ write_count result (real_write_faults self.old) }
         ensures counts { real_write_faults self.old ≤ real_write_faults self.new }
     {
+        self.trouble = Trouble::Untold;
         let result = if name == "-" {
-            write_whole(&mut io::writer(&self.rt), bytes)
+            write_whole(&mut io::writer(&self.rt), bytes, &mut self.trouble)
         } else {
             match open_output(&self.rt, &mut self.begun, &mut self.used, name) {
-                Ok(mut file) => write_whole(&mut file, bytes),
+                Ok(mut file) => write_whole(&mut file, bytes, &mut self.trouble),
                 Err(stop) => Err(stop),
             }
         };
@@ -227,5 +265,9 @@ impl<R: Files + Print + Alloc> Desk for RealDesk<R> {
             self.write_faults = self.write_faults.saturating_add(1);
         }
         result
+    }
+
+    fn trouble(&self) -> Trouble {
+        self.trouble
     }
 }

@@ -6,7 +6,7 @@ ghost use Rattle.sbpl_cli.specs.Answered.{IsAnswered};
 ghost use Rattle.sbpl_cli.specs.sbpl_promises.Explained.{has_message};
 
 use sbpl_cli::{
-    Board, Desk, Entry, LiveBoard, NoGate, Publisher, ReadStop, Reader, Status, WriteStop, answer,
+    Board, Desk, Entry, LiveBoard, NoGate, Publisher, ReadStop, Reader, Status, Trouble, WriteStop, answer,
     runs_may_end_at_once,
 };
 use std::alloc::{AllocError, Global};
@@ -95,6 +95,10 @@ impl<R: Wait, D: Desk, E: io::Write> Desk for ConsoleDesk<'_, '_, '_, R, D, E> {
     fn write(&mut self, name: &str, bytes: &[u8]) -> Result<(), WriteStop> {
         self.console.lock(self.rt).end();
         self.desk.write(name, bytes)
+    }
+
+    fn trouble(&self) -> Trouble {
+        self.desk.trouble()
     }
 }
 

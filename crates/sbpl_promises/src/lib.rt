@@ -19,7 +19,7 @@ pub use sbpl_report::{NoMemory, next_token};
 pub use sbpl_report::{ListOf, Message, Piece, plain_message, push_all, push_bytes};
 
 // Of `sbpl_desk`.
-pub use sbpl_desk::{Desk, MemoryDesk, ReadStop, RealDesk, WriteStop};
+pub use sbpl_desk::{Desk, MemoryDesk, ReadStop, RealDesk, Trouble, WriteStop};
 
 // Of `sbpl_cfg`.
 pub use sbpl_report::{

@@ -14,19 +14,28 @@ ghost use Rattle.sbpl_promises.specs.Writing.{ReadsOnly};
 
 use sbpl_promises::{
     ChangeFault, Changes, Desk, Env, EnvFault, Grid, Input, JobStop, Lattice, ListOf, Map, Message,
-    Name, NoMemory, PrimFault, Prims, ReadStop, Refusal, Sources, Updates, changes_message,
+    Name, NoMemory, PrimFault, Prims, ReadStop, Refusal, Sources, Trouble, Updates, changes_message,
     environment_message, plain_message, primitives_message, read_changes, read_env, read_moves,
     read_prims,
 };
 use std::alloc::Global;
 
+/// What is said of a file that could not be read.
+fn unread(trouble: Trouble) -> &'static str {
+    match trouble {
+        Trouble::Missing => "there is no such file",
+        Trouble::Folder => "this is a folder, and not a file",
+        Trouble::Forbidden => "the program is not allowed to read this file",
+        Trouble::Untold | Trouble::Unread =>
+            "the file could not be read: it must exist, and the program must be allowed to read it",
+    }
+}
+
 /// The message for a file that could not be read.
-fn unread_message(alloc: Global, name: &str) -> Result<Message, NoMemory>
+fn unread_message(alloc: Global, name: &str, trouble: Trouble) -> Result<Message, NoMemory>
     ensures message { IfOk result (λ m. IsPlainMessage name.now m) }
 {
-    let what =
-        "the file could not be read: it must exist, and the program must be allowed to read it";
-    let message = plain_message(alloc, name, what)?;
+    let message = plain_message(alloc, name, unread(trouble))?;
     Ok(message)
 }
 
@@ -45,7 +54,7 @@ pub fn read_file<D: Desk>(
     match desk.read(name.as_str(), &mut text) {
         Ok(()) => Ok(text),
         Err(ReadStop::Failed) => {
-            let message = unread_message(alloc, name.as_str())?;
+            let message = unread_message(alloc, name.as_str(), desk.trouble())?;
             Err(JobStop::Refused(Refusal::Read(input), message))
         }
         Err(ReadStop::TooLong) => {

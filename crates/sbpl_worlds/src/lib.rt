@@ -29,7 +29,7 @@ pub use sbpl_promises::{NoMemory, next_token};
 pub use sbpl_promises::{ListOf, Message};
 
 // Of `sbpl_desk`.
-pub use sbpl_promises::{Desk, MemoryDesk, ReadStop, RealDesk, WriteStop};
+pub use sbpl_promises::{Desk, MemoryDesk, ReadStop, RealDesk, Trouble, WriteStop};
 
 // Of `sbpl_cfg`.
 pub use sbpl_promises::{cell_at, heading_at, print_env, read_env};
