@@ -9,7 +9,7 @@ use Rattle.sbpl_telling.specs.declared.ending.Ending.{Ending}
 use Rattle.sbpl_worlds.specs.sbpl_cert.Faults.{place_of}
 use Rattle.sbpl_worlds.specs.sbpl_cert.declared.fault.LabelFault.{LabelFault}
 use Rattle.sbpl_worlds.specs.sbpl_cert.declared.outcome.Outcome.{Outcome}
-use Rattle.sbpl_worlds.specs.sbpl_lists.Messages.{IsMessageAt}
+use Rattle.sbpl_worlds.specs.sbpl_lists.Messages.{IsMessageAt, IsPlainMessage}
 use Rattle.sbpl_worlds.specs.sbpl_promises.Checked.{AreChecked, Case, Ground, IsEndOfText, IsGroundAfter, IsSectionStop, IsShownHolding, from_in, to_in}
 use Rattle.sbpl_worlds.specs.sbpl_promises.Intents.{checked_status, checked_writes, stop_status, stop_writes}
 use Rattle.sbpl_worlds.specs.sbpl_promises.declared.section_stop.SectionStop.{SectionStop}
@@ -29,8 +29,14 @@ pub record IsFaultTold (file : LabelFile) (f : LabelFault) (e : Ending) : Type 0
   pub written : number_of e.status ≡ 10 → IsMessageAt file.name.now file.text.now (place_of f) e.why
   pub unwritten : number_of e.status ≢ 10 → e.why ≡ []
 
--- of how the checking of the sections of such a file ends: nothing but a fault
+-- what is told of a flaw in the sections of such a file: a message on the file, where the line of the report was written; and nothing otherwise
+pub record IsFlawTold (file : LabelFile) (e : Ending) : Type 0 where
+  pub written : number_of e.status ≡ 1 → IsPlainMessage file.name.now e.why
+  pub unwritten : number_of e.status ≢ 1 → e.why ≡ []
+
+-- of how the checking of the sections of such a file ends: a flaw or a fault, and nothing else
 abbrev pub IsStopTold : LabelFile → Option SectionStop → Ending → Type 0
+IsStopTold file (Some (section.Flaw f)) e = IsFlawTold file e
 IsStopTold file (Some (section.Fault f)) e = IsFaultTold file f e
 IsStopTold file _ e = e.why ≡ []
 

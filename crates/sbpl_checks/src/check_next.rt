@@ -2,8 +2,9 @@
 
 ghost use Rattle.std.specs.Prelude.{◌≡◌, ◌<◌, ◌≤◌, ◌∷◌, [], length, IfErr, IfOk, Some};
 ghost use Rattle.sbpl_worlds.specs.sbpl_fixed.Formats.{start_at};
+ghost use Rattle.sbpl_worlds.specs.sbpl_lists.Messages.{IsPlainMessage};
 ghost use Rattle.sbpl_worlds.specs.sbpl_promises.Checked.{ground};
-ghost use Rattle.sbpl_checks.specs.Checking.{EndsAtSection, HoldsAndPrints, IsFaultTold, IsStopTold};
+ghost use Rattle.sbpl_checks.specs.Checking.{EndsAtSection, HoldsAndPrints, IsFaultTold, IsFlawTold, IsStopTold};
 ghost use Rattle.sbpl_worlds.specs.sbpl_promises.Intents.{stop_status, stop_writes};
 ghost use Rattle.sbpl_worlds.specs.sbpl_report.Refusals.{label_fault_text};
 ghost use Rattle.sbpl_worlds.specs.sbpl_report.Statuses.{number_of};
@@ -14,23 +15,39 @@ use crate::label_file::LabelFile;
 use crate::section_check::check_section;
 use sbpl_telling::{Ending, OUTPUT, Status, end_with, status_after, write_text};
 use sbpl_worlds::{
-    Desk, Flaw, Graph, Guide, LabelFault, NoMemory, Outcome, SectionStop, WriteStop, fault_line,
-    flaw_line, holds_line, labels_message,
+    Desk, Flaw, Graph, Guide, LabelFault, Message, NoMemory, Outcome, SectionStop, WriteStop,
+    fault_line, flaw_line, holds_line, labels_message, plain_message,
 };
 use std::alloc::Global;
 
-/// Writes the line of a flaw.
-fn tell_flaw<D: Desk>(alloc: Global, goal: u32, plan: u32, flaw: &Flaw, desk: &mut D) -> Ending
+/// The message on a flaw in the section of a plan.
+fn flaw_message(alloc: Global, name: &str, plan: u32, flaw: &Flaw) -> Result<Message, NoMemory>
+    ensures message { IfOk result (λ m. IsPlainMessage name.now m) }
+{
+    let what = format!(in alloc; "the labels of plan {plan} have a flaw: {flaw}")?;
+    let message = plain_message(alloc, name, what.as_str())?;
+    Ok(message)
+}
+
+/// Writes the line of a flaw, and tells it in words.
+fn tell_flaw<D: Desk>(
+    alloc: Global,
+    goal: u32,
+    plan: u32,
+    labels: &LabelFile,
+    flaw: &Flaw,
+    desk: &mut D,
+) -> Ending
     ensures ends { EndsAs (D.state desk.old) (D.state desk.new) (to_output (flaw_text goal plan flaw.now) ∷ []) 1
         (number_of result.status) }
-    ensures untold { result.why ≡ [] }
+    ensures told { IsFlawTold labels.now result }
     ensures frame { WritesOnly IsOutput (D.state desk.old) (D.state desk.new) }
 {
+    let Ok(message) = flaw_message(alloc, labels.name.as_str(), plan, flaw) else {
+        return Ending::plain(alloc, Status::NoMemory);
+    };
     match flaw_line(alloc, goal, plan, flaw) {
-        Ok(line) => {
-            let written = write_text(OUTPUT, line.as_slice(), desk);
-            Ending::plain(alloc, status_after(written, Status::FlawFound))
-        }
+        Ok(line) => end_with(alloc, line.as_slice(), Status::FlawFound, message, desk),
         Err(NoMemory) => Ending::plain(alloc, Status::NoMemory),
     }
 }
@@ -71,7 +88,7 @@ fn tell_stop<D: Desk>(
     ensures frame { WritesOnly IsOutput (D.state desk.old) (D.state desk.new) }
 {
     match stop {
-        SectionStop::Flaw(flaw) => tell_flaw(alloc, goal, plan, flaw, desk),
+        SectionStop::Flaw(flaw) => tell_flaw(alloc, goal, plan, labels, flaw, desk),
         SectionStop::Fault(fault) => tell_fault(alloc, labels, fault, desk),
         SectionStop::NoMemory => Ending::plain(alloc, Status::NoMemory),
     }

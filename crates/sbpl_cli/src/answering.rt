@@ -65,7 +65,7 @@ pub fn answer<R: Threads + Wait + Sync, D: Desk, T: Gate + Sync, E: io::Write>(
         (entries_of live.new) result }
     // The publisher stays the board's.
     ensures same { IsSamePublisher live.old live.new }
-    // A message comes with the statuses 2 to 7 and 10 alone.
+    // A message comes with the statuses 1 to 7 and 10 alone.
     ensures quiet { has_message result ≡ false → Keeps (E.contents err.old) (E.contents err.new) }
 {
     runs_keep_promises();

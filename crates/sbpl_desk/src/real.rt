@@ -119,11 +119,7 @@ fn read_whole<F: Read>(file: &mut F, into: &mut Vec<u8>) -> Result<(), ReadStop>
 }
 
 /// Writes all of the bytes, in as many calls as it takes.
-fn write_whole<W: Write>(
-    to: &mut W,
-    bytes: &[u8],
-    trouble: &mut Trouble,
-) -> Result<(), WriteStop>
+fn write_whole<W: Write>(to: &mut W, bytes: &[u8], trouble: &mut Trouble) -> Result<(), WriteStop>
     ensures bytes { OnOk result (Appends (W.contents to.old) (W.contents to.new) bytes.now) }
     ensures prefix { OnErr result (AppendsPrefix (W.contents to.old) (W.contents to.new) bytes.now) }
     ensures failed { result ≢ Err WriteStop.NoMemory }
@@ -231,13 +227,7 @@ impl<R: Files + Print + Alloc> Desk for RealDesk<R> {
     {
         into.clear();
         self.trouble = Trouble::Untold;
-        let result = read_file(
-            &self.rt,
-            &mut self.used,
-            &mut self.trouble,
-            name,
-            into,
-        );
+        let result = read_file(&self.rt, &mut self.used, &mut self.trouble, name, into);
         if let Err(stop) = result {
             into.clear();
             if stop == ReadStop::Failed {

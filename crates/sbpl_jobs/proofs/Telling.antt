@@ -4,8 +4,9 @@ use Rattle.std.proofs.Common.{Result, Ok, Err, IfOk, inl, inr, refl, sym, ◌∙
 use Rattle.sbpl_checks.specs.sbpl_job.declared.job.Job.{Job}
 use Rattle.sbpl_checks.specs.sbpl_lists.Messages.{IsMessageAt, IsPlainMessage}
 use Rattle.sbpl_checks.specs.sbpl_promises.Causes.{CausesStand, IsFailedOn, IsJobCause}
-use Rattle.sbpl_checks.specs.sbpl_promises.Explained.{Explains, IsFaultExplained, IsLabelFaultExplained, IsTold, IsToldOf}
-use Rattle.sbpl_checks.specs.sbpl_promises.Explained.{nothing, of_labels, of_refusal, of_words, of_write, out_of_memory}
+use Rattle.sbpl_checks.specs.sbpl_promises.Explained.{Explains, IsFaultExplained, IsFlawExplained, IsLabelFaultExplained, IsTold}
+use Rattle.sbpl_checks.specs.sbpl_promises.Explained.{IsToldOf, nothing, of_flaw, of_labels, of_refusal, of_words, of_write}
+use Rattle.sbpl_checks.specs.sbpl_promises.Explained.{out_of_memory}
 use Rattle.sbpl_checks.specs.sbpl_promises.Explained.{program, unwritten, unwritten_text}
 use Rattle.sbpl_checks.specs.sbpl_promises.Intents.{checked_status, checked_writes, plans_status, refusal_writes}
 use Rattle.sbpl_checks.specs.sbpl_promises.Intents.{words_writes}
@@ -41,7 +42,7 @@ pub plain_told : (s u : DeskState) (j : Job) (e : Ending) → e.why ≡ [] → I
     → IsToldOf s u j (number_of e.status) (message_of e)
 plain_told s u j e none (inl is) = nothing (inl is) (message_at e 0 is ∙ none)
 plain_told s u j e none (inr (inl is)) = of_write is (message_at e 7 is)
-plain_told s u j e none (inr (inr is)) = nothing (inr (inr is)) (message_at e 9 is ∙ none)
+plain_told s u j e none (inr (inr is)) = nothing (inr is) (message_at e 9 is ∙ none)
 
 -- plans that were made, all or some, and what else is done whole
 pub plans_end : {a b : DeskState} {writes : List Write} (all : Bool) (status : ℕ)
@@ -72,17 +73,19 @@ pub check_told : {W : Type 0} (s u : DeskState) (f : WorldFiles W) (changes : Op
     (checked : IsChecked s.held f changes labels goals os end) → file.name.now ≡ labels
     → file.text.now ≡ checked.text → EndsAs s u (checked_writes goals 0 os end) (checked_status end) (number_of e.status)
     → IsStopTold file end e
+    → (IsPlainMessage labels (message_of e) → IsFlawExplained j (message_of e))
     → (IsFaultExplained s u f changes labels (message_of e) → IsLabelFaultExplained s u j (message_of e))
     → IsToldOf s u j (number_of e.status) (message_of e)
-check_told s u f changes labels j file goals os None e checked name text ends told of =
+check_told s u f changes labels j file goals os None e checked name text ends told flaw of =
     plain_told s u j e told (plans_end true (number_of e.status) ends)
-check_told s u f changes labels j file goals os (Some (section.Flaw x)) e checked name text (inl (is, made)) told of =
-    nothing (inr (inl is)) (message_at e 1 is ∙ told)
-check_told s u f changes labels j file goals os (Some (section.Flaw x)) e checked name text (inr (inl (is, at))) told of =
+check_told s u f changes labels j file goals os (Some (section.Flaw x)) e checked name text (inl (is, made)) told flaw of =
+    of_flaw is (flaw (subst (λ (m : List ℕ). IsPlainMessage labels m) (sym (message_at e 1 is))
+    (subst (λ (n : List ℕ). IsPlainMessage n e.why) name (told.written is))))
+check_told s u f changes labels j file goals os (Some (section.Flaw x)) e checked name text (inr (inl (is, at))) told flaw of =
     of_write is (message_at e 7 is)
-check_told s u f changes labels j file goals os (Some (section.Flaw x)) e checked name text (inr (inr (is, at))) told of =
-    nothing (inr (inr is)) (message_at e 9 is ∙ told)
-check_told s u f changes labels j file goals os (Some (section.Fault x)) e checked name text (inl (is, made)) told of =
+check_told s u f changes labels j file goals os (Some (section.Flaw x)) e checked name text (inr (inr (is, at))) told flaw of =
+    nothing (inr is) (message_at e 9 is ∙ told.unwritten (λ one. let both : 9 ≡ 1 = sym is ∙ one in cc))
+check_told s u f changes labels j file goals os (Some (section.Fault x)) e checked name text (inl (is, made)) told flaw of =
     of_labels is (of (record {
       fault = x;
       judged = record { goals = goals; outcomes = os; checked = checked; lines = made };
@@ -91,16 +94,16 @@ check_told s u f changes labels j file goals os (Some (section.Fault x)) e check
           (subst (λ (n : List ℕ). IsMessageAt n checked.text (place_of x) e.why) name
           (subst (λ (t : List ℕ). IsMessageAt file.name.now t (place_of x) e.why) text (told.written is)));
     }))
-check_told s u f changes labels j file goals os (Some (section.Fault x)) e checked name text (inr (inl (is, at))) told of =
+check_told s u f changes labels j file goals os (Some (section.Fault x)) e checked name text (inr (inl (is, at))) told flaw of =
     of_write is (message_at e 7 is)
-check_told s u f changes labels j file goals os (Some (section.Fault x)) e checked name text (inr (inr (is, at))) told of =
-    nothing (inr (inr is)) (message_at e 9 is ∙ told.unwritten (λ ten. let both : 9 ≡ 10 = sym is ∙ ten in cc))
-check_told s u f changes labels j file goals os (Some section.NoMemory) e checked name text (inl (is, made)) told of =
-    nothing (inr (inr is)) (message_at e 9 is ∙ told)
-check_told s u f changes labels j file goals os (Some section.NoMemory) e checked name text (inr (inl (is, at))) told of =
+check_told s u f changes labels j file goals os (Some (section.Fault x)) e checked name text (inr (inr (is, at))) told flaw of =
+    nothing (inr is) (message_at e 9 is ∙ told.unwritten (λ ten. let both : 9 ≡ 10 = sym is ∙ ten in cc))
+check_told s u f changes labels j file goals os (Some section.NoMemory) e checked name text (inl (is, made)) told flaw of =
+    nothing (inr is) (message_at e 9 is ∙ told)
+check_told s u f changes labels j file goals os (Some section.NoMemory) e checked name text (inr (inl (is, at))) told flaw of =
     of_write is (message_at e 7 is)
-check_told s u f changes labels j file goals os (Some section.NoMemory) e checked name text (inr (inr (is, at))) told of =
-    nothing (inr (inr is)) (message_at e 9 is ∙ told)
+check_told s u f changes labels j file goals os (Some section.NoMemory) e checked name text (inr (inr (is, at))) told flaw of =
+    nothing (inr is) (message_at e 9 is ∙ told)
 
 -- no refusal has the status of a failed write
 refusal_message : (r : Refusal) (e : Ending) → number_of e.status ≡ refusal_status r → message_of e ≡ e.why
@@ -136,7 +139,7 @@ refused_so stand s t u old new j r why e stays cause explains same ends frame = 
           others = λ name other. frame.others name other ∙ same.written name;
         }) (subst (λ (m : List ℕ). Explains s.held (input_name j) r m) (sym (refusal_message r e is ∙ says)) explains)
     told (cut is at none) = of_write is (message_at e 7 is)
-    told (ran_out is at none) = nothing (inr (inr is)) (message_at e 9 is ∙ none)
+    told (ran_out is at none) = nothing (inr is) (message_at e 9 is ∙ none)
 
 -- words that name no job
 pub words_so : (named : Option Job) (s u : DeskState) (old : List Entry) (why : List ℕ) (e : Ending) → named ≡ None

@@ -44,7 +44,7 @@ pub fn start_at<R: AllocGlobal + Threads + Wait + Clock + Sync, D: Desk, E: io::
     // Every promise of `answer`, at this desk, where nothing was published before.
     ensures answered { (published : List Entry) × IsAnswered (map string_bytes words.now) (D.state desk) (D.state result.1) []
         published result.0 }
-    // At no terminal a message comes with the statuses 2 to 7 and 10 alone.
+    // At no terminal a message comes with the statuses 1 to 7 and 10 alone.
     ensures quiet { is_terminal ≡ false → has_message result.0 ≡ false → Keeps (E.contents err.old) (E.contents err.new) }
 {
     runs_may_end_at_once();

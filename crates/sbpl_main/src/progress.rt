@@ -6,8 +6,8 @@ ghost use Rattle.sbpl_cli.specs.Answered.{IsAnswered};
 ghost use Rattle.sbpl_cli.specs.sbpl_promises.Explained.{has_message};
 
 use sbpl_cli::{
-    Board, Desk, Entry, LiveBoard, NoGate, Publisher, ReadStop, Reader, Status, Trouble, WriteStop, answer,
-    runs_may_end_at_once,
+    Board, Desk, Entry, LiveBoard, NoGate, Publisher, ReadStop, Reader, Status, Trouble, WriteStop,
+    answer, runs_may_end_at_once,
 };
 use std::alloc::{AllocError, Global};
 use std::io;

@@ -60,8 +60,7 @@ where
         },
         Planner::Epase => {
             let rt = live.rt;
-            let make = move |alloc: Global, graph: &W, guide: &W::Best, workers: u32, parts: Parts, goal: u32, eps: u32,
-                keeps: bool|
+            let make = move |alloc: Global, graph: &W, guide: &W::Best, workers: u32, parts: Parts, goal: u32, eps: u32, keeps: bool|
                 requires can { CanPass (query (W.network graph.now) (W.Best.distance guide.now) eps goal)
                     (W.Best.guides guide.now (W.network graph.now) goal) workers parts }
                 ensures left { Leaves (query (W.network graph.now) (W.Best.distance guide.now) eps goal) workers parts keeps

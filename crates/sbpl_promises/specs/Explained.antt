@@ -26,9 +26,10 @@ use Rattle.sbpl_promises.specs.Texts.{HasChangeFault, HasEnvironmentFault, HasGr
 use Rattle.sbpl_promises.specs.WorldFiles.{WorldFiles}
 use Rattle.sbpl_promises.specs.Writing.{DeskState, Told}
 
--- the statuses of which people are told more: 2 for words, 3, 4, 5 and 10 for a fault in a file, 6 and 7 for a read and a write that failed
+-- the statuses of which people are told more: 1 for a flaw in labels, 2 for words, 3, 4, 5 and 10 for a fault in a file, 6 and 7 for a read and
+-- a write that failed
 abbrev pub has_message : ℕ → Bool
-has_message s = (s == 2) || (s == 3) || (s == 4) || (s == 5) || (s == 6) || (s == 7) || (s == 10)
+has_message s = (s == 1) || (s == 2) || (s == 3) || (s == 4) || (s == 5) || (s == 6) || (s == 7) || (s == 10)
 
 -- a message on the first fault of the file of this name, of a format whose faults have places
 pub record IsOnFault {F : Type 0} (HasFault : List ℕ → F → Type 0) (place_of : F → ℕ) (held : Told) (name : List ℕ) (f : F) (m : List ℕ) : Type 0 where
@@ -107,13 +108,20 @@ IsLabelFaultExplained before after (job.Check j) m = IsFaultExplained before aft
 IsLabelFaultExplained before after (job.NavCheck j) m = IsFaultExplained before after (grid_files j.env) j.changes j.labels m
 IsLabelFaultExplained before after _ m = ⊥
 
--- What is told of a job that ended with a status: of its refusal, whose line the report has; of a fault in its labels; that a write failed; or
--- nothing, where the job was done, where labels have a flaw, which the report says, and where memory ran out.
+-- a message on the file of labels of a job that checks them, where they have a flaw, which the report says
+abbrev pub IsFlawExplained : Job → List ℕ → Type 0
+IsFlawExplained (job.Check j) m = IsPlainMessage j.labels m
+IsFlawExplained (job.NavCheck j) m = IsPlainMessage j.labels m
+IsFlawExplained _ m = ⊥
+
+-- What is told of a job that ended with a status: of its refusal, whose line the report has; of a flaw or a fault in its labels; that a write
+-- failed; or nothing, where the job was done, and where memory ran out.
 pub data IsToldOf (before after : DeskState) (j : Job) (status : ℕ) (m : List ℕ) : Type 0 where
   of_refusal : (x : IsRefused before after status j) → Explains before.held (input_name j) x.refusal m → IsToldOf before after j status m
+  of_flaw : status ≡ 1 → IsFlawExplained j m → IsToldOf before after j status m
   of_labels : status ≡ 10 → IsLabelFaultExplained before after j m → IsToldOf before after j status m
   of_write : status ≡ 7 → m ≡ unwritten_text → IsToldOf before after j status m
-  nothing : (status ≡ 0) ⊎ ((status ≡ 1) ⊎ (status ≡ 9)) → m ≡ [] → IsToldOf before after j status m
+  nothing : (status ≡ 0) ⊎ (status ≡ 9) → m ≡ [] → IsToldOf before after j status m
 
 -- What is told of a run, whose words name a job or none: of the job; of the words; that a write failed; or nothing, where memory ran out.
 pub data IsTold (named : Option Job) (before after : DeskState) (status : ℕ) (m : List ℕ) : Type 0 where

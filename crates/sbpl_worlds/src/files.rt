@@ -14,9 +14,9 @@ ghost use Rattle.sbpl_promises.specs.Writing.{ReadsOnly};
 
 use sbpl_promises::{
     ChangeFault, Changes, Desk, Env, EnvFault, Grid, Input, JobStop, Lattice, ListOf, Map, Message,
-    Name, NoMemory, PrimFault, Prims, ReadStop, Refusal, Sources, Trouble, Updates, changes_message,
-    environment_message, plain_message, primitives_message, read_changes, read_env, read_moves,
-    read_prims,
+    Name, NoMemory, PrimFault, Prims, ReadStop, Refusal, Sources, Trouble, Updates,
+    changes_message, environment_message, plain_message, primitives_message, read_changes,
+    read_env, read_moves, read_prims,
 };
 use std::alloc::Global;
 

@@ -18,10 +18,12 @@ use sbpl_promises::{
 use std::alloc::Global;
 
 /// What is said of primitives of which one sweeps too many cells.
-const TOO_WIDE: &str = "with this --radius each primitive must sweep at most 65536 cells, and with those before it at most 4194304: the line of the refusal has the first that does not, counted from 0";
+const TOO_WIDE: &str =
+    "with this --radius each primitive must sweep at most 65536 cells, and with those before it at most 4194304: the line of the refusal has the first that does not, counted from 0";
 
 /// What is said of primitives of which one costs too much.
-const TOO_DEAR: &str = "each primitive must cost at most 16777215: the line of the refusal has the first that does not, counted from 0";
+const TOO_DEAR: &str =
+    "each primitive must cost at most 16777215: the line of the refusal has the first that does not, counted from 0";
 
 /// The message for primitives without a fault that the planner does not take.
 fn size_message(alloc: Global, name: &str, what: &str) -> Result<Message, NoMemory>

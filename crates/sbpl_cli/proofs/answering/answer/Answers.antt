@@ -1,6 +1,6 @@
 use Rattle.std.proofs.Common.{◌≡◌, ℕ, List, [], map, string_bytes, None, Option, Some, IsSome, true, false, rules, inl, inr, refl, sym, ◌∙◌, subst}
 use Rattle.std.proofs.lemmas.Bool.{false≢true}
-use Rattle.sbpl_jobs.specs.sbpl_promises.Explained.{Explains, IsTold, IsToldOf, by_job, has_message, nothing, of_labels}
+use Rattle.sbpl_jobs.specs.sbpl_promises.Explained.{Explains, IsTold, IsToldOf, by_job, has_message, nothing, of_flaw, of_labels}
 use Rattle.sbpl_jobs.specs.sbpl_promises.Explained.{of_refusal, of_words, of_write, out_of_memory, unwritten}
 use Rattle.sbpl_jobs.specs.sbpl_promises.Run.{IsOrUnwritten, IsStatus, Job, job_named, refusal_status}
 use Rattle.sbpl_jobs.specs.sbpl_promises.Writing.{DeskState, Told}
@@ -48,6 +48,7 @@ job_quiet : {s u : DeskState} {j : Job} {status : ℕ} {m : List ℕ} → IsTold
     → has_message status ≡ false → m ≡ []
 job_quiet {s} {j = j} {status = status} {m = m} (of_refusal x explains) quiet =
     refusal_quiet s.held (input_name j) m status x.refusal x.has_status explains quiet
+job_quiet {status = status} (of_flaw is told) quiet = absurd (not_quiet 1 status (sym is) refl quiet)
 job_quiet {status = status} (of_labels is told) quiet = absurd (not_quiet 10 status (sym is) refl quiet)
 job_quiet {status = status} (of_write is told) quiet = absurd (not_quiet 7 status (sym is) refl quiet)
 job_quiet (nothing is none) quiet = none
