@@ -26,4 +26,5 @@ pub record IsAnswered (words : List (List ℕ)) (before after : DeskState) (old 
 
 -- where memory runs out before anything is done, every promise is kept
 abbrev pub AreAnsweredAtOnce : Type 0
-AreAnsweredAtOnce = (words : List (List ℕ)) (desk : DeskState) (published : List Entry) → IsAnswered words desk desk published published 9
+AreAnsweredAtOnce =
+    (words : List (List ℕ)) (desk : DeskState) (published : List Entry) → IsAnswered words desk desk published published 9

@@ -32,8 +32,8 @@ fn after_name(words: &[String]) -> &[String]
     }
 }
 
-/// Does what the words after the program's name ask for at a desk, and answers the status, and the desk. Where the job was not done, a
-/// line on `err` says why. Where `err` is a terminal, the newest path is shown on its last line while the planner works.
+/// Does what the words after the program's name ask for at a desk, and answers the status, and the desk. Where the job was not
+/// done, a line on `err` says why. Where `err` is a terminal, the newest path is shown on its last line while the planner works.
 pub fn start_at<R: AllocGlobal + Threads + Wait + Clock + Sync, D: Desk, E: io::Write + Send>(
     rt: &R,
     words: &[String],

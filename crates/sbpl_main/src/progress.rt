@@ -220,8 +220,8 @@ fn answer_at_terminal<R: AllocGlobal + Threads + Wait + Clock + Sync, D: Desk, E
     (status, desk.desk)
 }
 
-/// Does what `answer` does at this desk with this board, and answers the status, and the desk. Where `err` is a terminal, the newest
-/// path is shown on its last line while the planner works.
+/// Does what `answer` does at this desk with this board, and answers the status, and the desk. Where `err` is a terminal, the
+/// newest path is shown on its last line while the planner works.
 pub(crate) fn answer_on<
     R: AllocGlobal + Threads + Wait + Clock + Sync,
     D: Desk,

@@ -72,7 +72,8 @@ pub use sbpl_promises::{Epase, Gate, NoGate, Parts, parallel_pass_parts};
 
 // Of `sbpl_cert`.
 pub use sbpl_promises::{
-    Flaw, LabelFault, Outcome, Section, check, check_sparse, labels_message, read_labels,
+    Flaw, LabelFault, Outcome, Section, check, check_sparse, labels_message, plain_message,
+    read_labels,
 };
 
 // Of `sbpl_plan`.
