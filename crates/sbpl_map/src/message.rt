@@ -68,6 +68,15 @@ fn wanted_with_starts(line: &[u8], fault: &ChangeFault) -> &'static str {
     }
 }
 
+/// What a line must be that has a fault, where lines cannot say where a robot is.
+fn wanted_without_starts(line: &[u8], fault: &ChangeFault) -> &'static str {
+    match fault {
+        ChangeFault::Word(_) if line.starts_with(b"start") =>
+            "\"start X Y T\" is for --planner back alone: a line must be \"cell X Y C\" or \"replan\", or have no fields",
+        _ => wanted(fault),
+    }
+}
+
 /// The message of a fault of a change file: on which line it is, at which column the line's first field begins, what the line must
 /// be, and what was found. `moves` says whether lines can say where a robot is.
 pub fn changes_message(
@@ -86,7 +95,7 @@ pub fn changes_message(
     let wanted = if moves {
         wanted_with_starts(line, fault)
     } else {
-        wanted(fault)
+        wanted_without_starts(line, fault)
     };
     let message = message_on_line(alloc, name, fault.line() as usize, blanks + 1, wanted, line)?;
     Ok(message)
