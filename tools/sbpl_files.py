@@ -24,6 +24,8 @@ GRID_STEPS = [(1, 0), (1, 1), (0, 1), (-1, 1), (-1, 0), (-1, -1), (0, -1), (1, -
 MOST_STATES = 2**23
 MOST_POSES = 200_000
 MOST_NUMBER = 10**18
+# the names of the files that the tool has read
+INPUTS: list[str] = []
 
 
 class BadInput(Exception):
@@ -204,6 +206,7 @@ def read_bytes(path: str) -> bytes:
     """A file's bytes."""
     try:
         with open(path, "rb") as file:
+            INPUTS.append(path)
             return file.read()
     except OSError as error:
         raise BadInput(f"{path}: cannot be read: {error.strerror}") from None
@@ -216,8 +219,17 @@ def read_lines(path: str) -> list[str]:
     return read_bytes(path).decode("latin-1").split("\n")
 
 
+def check_output(path: str) -> None:
+    """Refuses an output that is a file that was read, under whatever name. What is no regular file keeps nothing."""
+    for name in INPUTS:
+        if os.path.isfile(path) and os.path.exists(name) and os.path.samefile(name, path):
+            raise BadInput(f"{path}: cannot be written: it is the input {name}")
+
+
 def write_text(path: str | None, text: str) -> None:
-    """Writes a text to a file, or to standard output where none is named."""
+    """Writes a text to a file that is no input, or to standard output where none is named."""
+    if path is not None:
+        check_output(path)
     try:
         if path is None:
             sys.stdout.write(text)
@@ -655,6 +667,7 @@ def number(low: int, high: int) -> Callable[[str], int]:
 def run(main: Callable[[], None]) -> None:
     """Runs a tool; a fault of its input is told on standard error, with exit status 2."""
     name = os.path.basename(sys.argv[0])
+    INPUTS.clear()
     try:
         main()
     except BadInput as error:
