@@ -7,6 +7,7 @@ nanoradians, as the planner reads them. A fault is raised as `BadInput`, which n
 from __future__ import annotations
 
 import argparse
+import contextlib
 import math
 import os
 import re
@@ -14,7 +15,7 @@ import struct
 import sys
 from dataclasses import dataclass, field
 from decimal import ROUND_HALF_EVEN, Decimal, InvalidOperation
-from typing import Callable, NamedTuple
+from typing import Callable, Iterator, NamedTuple
 
 NANO = 10**9
 FULL_TURN = 6_283_185_307
@@ -30,6 +31,10 @@ INPUTS: list[str] = []
 
 class BadInput(Exception):
     """A fault of an input, in words for the user."""
+
+
+class OtherKind(BadInput):
+    """A file that does not begin as one of its kind does, so it may be another kind's."""
 
 
 class Pose(NamedTuple):
@@ -280,7 +285,8 @@ class Tokens:
         """Takes a word that must stand here."""
         token = self.take(f"'{word}'")
         if token != word:
-            raise self.fault(f"'{token[:40]}' stands where '{word}' must")
+            fault = self.fault(f"'{token[:40]}' stands where '{word}' must")
+            raise OtherKind(str(fault)) if self.next == 1 else fault
 
     def number(self, name: str, low: int, high: int, read: Callable[[str], int | None]) -> int:
         """Takes a number from low to high."""
@@ -550,7 +556,7 @@ class ReportReader:
         elif word == "done" and count == 1 and plan:
             self.done = True
         elif plan is None:
-            raise self.fault("no report of a plan begins so: 'plan 0' must stand first")
+            raise OtherKind(str(self.fault("no report of a plan begins so: 'plan 0' must stand first")))
         elif word == "pass" and count >= 4 and fields[2] == "expanded" and not plan.result:
             plan.expanded += self.numbers(fields[3:4])[0]
         elif word == "spent" and count == 2 and not plan.result:
@@ -662,6 +668,15 @@ def length(low: int, high: int) -> Callable[[str], int]:
 def number(low: int, high: int) -> Callable[[str], int]:
     """A reader of a setting: a whole number from low to high."""
     return setting(whole, str, "whole number", low, high)
+
+
+@contextlib.contextmanager
+def in_order(order: str) -> Iterator[None]:
+    """Says in which order files are named, where one of those that are read here is of another kind."""
+    try:
+        yield
+    except OtherKind as error:
+        raise BadInput(f"{error}; name the files in the order {order}") from None
 
 
 def run(main: Callable[[], None]) -> None:
