@@ -18,13 +18,57 @@ use sbpl_worlds::{
     Desk, Flaw, Graph, Guide, LabelFault, Message, NoMemory, Outcome, SectionStop, WriteStop,
     fault_line, flaw_line, holds_line, labels_message, plain_message,
 };
-use std::alloc::Global;
+use std::alloc::{AllocError, Global};
+use std::fmt;
+
+/// From here on a number of a flaw is infinite (`Flaw`).
+const INFINITE: u64 = 1 << 63;
+
+/// A label or a limit, as people read it.
+#[derive(Clone, Copy)]
+struct Label(u64);
+
+impl fmt::Display for Label {
+    fn fmt<W: fmt::Write>(&self, f: &mut fmt::Formatter<W>) -> fmt::Result {
+        if self.0 >= INFINITE {
+            f.write_str("infinite")
+        } else {
+            write!(f, "{}", self.0)
+        }
+    }
+}
+
+/// A flaw in words.
+fn flaw_words(alloc: Global, flaw: &Flaw) -> Result<String, AllocError> {
+    match *flaw {
+        Flaw::Start { g } => format!(in alloc; "g is {} at the start", Label(g)),
+        Flaw::Arc {
+            state,
+            arc,
+            has,
+            most,
+        } => format!(in alloc;
+            "g is {} after arc {arc} of state {state}, which allows {}",
+            Label(has),
+            Label(most)
+        ),
+        Flaw::Low { state, has, most } => format!(in alloc;
+            "the low is {}, and state {state} allows {}",
+            Label(has),
+            Label(most)
+        ),
+        _ => format!(in alloc; "{flaw}"),
+    }
+}
 
 /// The message on a flaw in the section of a plan.
 fn flaw_message(alloc: Global, name: &str, plan: u32, flaw: &Flaw) -> Result<Message, NoMemory>
     ensures message { IfOk result (λ m. IsPlainMessage name.now m) }
 {
-    let what = format!(in alloc; "the labels of plan {plan} have a flaw: {flaw}")?;
+    let words = flaw_words(alloc, flaw)?;
+    let what = format!(in alloc;
+        "the labels of plan {plan} have a flaw: {words}; are the map, the changes, --radius and --planner those of the plan?"
+    )?;
     let message = plain_message(alloc, name, what.as_str())?;
     Ok(message)
 }

@@ -4,7 +4,7 @@ ghost use Rattle.std.specs.Prelude.{◌≡◌, ◌<◌, ◌^◌, [], false, leng
 ghost use Rattle.std.specs.Io.KnownBytes.{Keeps};
 ghost use Rattle.sbpl_jobs.specs.sbpl_desk.Desk.{Rose};
 ghost use Rattle.sbpl_jobs.specs.sbpl_promises.Explained.{has_message};
-ghost use Rattle.sbpl_jobs.specs.sbpl_promises.Run.{IsOrUnwritten};
+ghost use Rattle.sbpl_jobs.specs.sbpl_promises.Run.{IsOrUnwritten, job_named};
 ghost use Rattle.sbpl_jobs.specs.sbpl_promises.Writing.{IsOutput, WritesOnly, output};
 ghost use Rattle.sbpl_jobs.specs.sbpl_plans.Boards.{IsSamePublisher, entries_of};
 ghost use Rattle.sbpl_jobs.specs.sbpl_report.Statuses.{number_of};
@@ -65,8 +65,8 @@ pub fn answer<R: Threads + Wait + Sync, D: Desk, T: Gate + Sync, E: io::Write>(
         (entries_of live.new) result }
     // The publisher stays the board's.
     ensures same { IsSamePublisher live.old live.new }
-    // A message comes with the statuses 1 to 7 and 10 alone.
-    ensures quiet { has_message result ≡ false → Keeps (E.contents err.old) (E.contents err.new) }
+    // A message comes with the statuses 1 to 7 and 10 alone, and of a job that makes plans with 0.
+    ensures quiet { has_message (job_named words.now) result ≡ false → Keeps (E.contents err.old) (E.contents err.new) }
 {
     runs_keep_promises();
     promises_show_the_headline();

@@ -4,8 +4,8 @@ use Rattle.std.proofs.Common.{Result, Ok, Err, IfOk, inl, inr, refl, sym, ◌∙
 use Rattle.sbpl_checks.specs.sbpl_job.declared.job.Job.{Job}
 use Rattle.sbpl_checks.specs.sbpl_lists.Messages.{IsMessageAt, IsPlainMessage}
 use Rattle.sbpl_checks.specs.sbpl_promises.Causes.{CausesStand, IsFailedOn, IsJobCause}
-use Rattle.sbpl_checks.specs.sbpl_promises.Explained.{Explains, IsFaultExplained, IsFlawExplained, IsLabelFaultExplained, IsTold}
-use Rattle.sbpl_checks.specs.sbpl_promises.Explained.{IsToldOf, nothing, of_flaw, of_labels, of_refusal, of_words, of_write}
+use Rattle.sbpl_checks.specs.sbpl_promises.Explained.{Explains, IsBlockExplained, IsFaultExplained, IsFlawExplained, IsLabelFaultExplained, IsTold}
+use Rattle.sbpl_checks.specs.sbpl_promises.Explained.{IsToldOf, nothing, of_block, of_flaw, of_labels, of_refusal, of_words, of_write}
 use Rattle.sbpl_checks.specs.sbpl_promises.Explained.{out_of_memory}
 use Rattle.sbpl_checks.specs.sbpl_promises.Explained.{program, unwritten, unwritten_text}
 use Rattle.sbpl_checks.specs.sbpl_promises.Intents.{checked_status, checked_writes, plans_status, refusal_writes}
@@ -29,7 +29,7 @@ use Rattle.sbpl_checks.specs.Checking.{IsStopTold}
 use Rattle.sbpl_checks.specs.declared.label_file.LabelFile.{LabelFile}
 use Rattle.sbpl_checks.proofs.Endings.{ends_as}
 use Rattle.sbpl_checks.proofs.Writings.{made_both, none_made}
-use Rattle.sbpl_jobs.specs.Endings.{IsJobEnding, IsRunEnding}
+use Rattle.sbpl_jobs.specs.Endings.{IsJobEnding, IsPlainOrBlocked, IsRunEnding}
 use Rattle.sbpl_jobs.proofs.Ends.{failed_later, refused}
 
 -- the message, where the status is known
@@ -59,6 +59,17 @@ pub plain_ending : (s u : DeskState) (old new : List Entry) (j : Job) (status : 
 plain_ending s u old new j status e is none fine ends = record {
   ends = subst (λ (n : ℕ). EndsJob s u old new j n) (sym is) ends;
   told = plain_told s u j e none (subst (λ (n : ℕ). IsOrUnwritten 0 n) (sym is) fine);
+}
+
+-- or such a job made plans, and it may be told why the first has no path
+pub planning_ending : (s u : DeskState) (old new : List Entry) (j : Job) (env : List ℕ) (status : ℕ) (e : Ending)
+    → number_of e.status ≡ status → IsPlainOrBlocked env e
+    → (IsPlainMessage env (message_of e) → IsBlockExplained j (message_of e))
+    → IsOrUnwritten 0 status → EndsJob s u old new j status → IsJobEnding s u old new j e
+planning_ending s u old new j env status e is (inl none) of fine ends = plain_ending s u old new j status e is none fine ends
+planning_ending s u old new j env status e is (inr (zero, plain)) of fine ends = record {
+  ends = subst (λ (n : ℕ). EndsJob s u old new j n) (sym is) ends;
+  told = of_block zero (of (subst (λ (m : List ℕ). IsPlainMessage env m) (sym (message_at e 0 zero)) plain));
 }
 
 -- a job that publishes nothing ends so whatever was published

@@ -9,6 +9,7 @@ ghost use Rattle.sbpl_checks.specs.sbpl_promises.Writing.{IsOutput, IsOutputOf, 
 ghost use Rattle.sbpl_plans.specs.Boards.{IsSamePublisher, entries_of};
 ghost use Rattle.sbpl_jobs.specs.Endings.{IsJobEnding, IsJobStop};
 
+use crate::blocked::{blockage_of, planned};
 use sbpl_checks::{
     Desk, Ending, Gate, Input, JobStop, LabelFile, Nav, NavCheckJob, NavJob, Updates, Workspace,
     check_text, read_file, read_grid_updates,
@@ -38,6 +39,7 @@ pub(crate) fn run_nav<R: Threads + Wait + Sync, D: Desk, T: Gate + Sync>(
 {
     let (nav, updates) = read_grid_updates(alloc, &job.env, &job.changes, desk)?;
     let (start, goal) = nav.ends();
+    let blockage = blockage_of(&nav, start, goal);
     let task = Task {
         how: &job.search,
         outputs: &job.outputs,
@@ -46,7 +48,7 @@ pub(crate) fn run_nav<R: Threads + Wait + Sync, D: Desk, T: Gate + Sync>(
         goal,
     };
     let status = make_plans(gate, alloc, nav, &task, live, &job.outputs, desk);
-    Ok(Ending::plain(alloc, status))
+    Ok(planned(alloc, job.env.as_str(), status, blockage))
 }
 
 /// The grid, the map updates of the change file, and the text of the labels.

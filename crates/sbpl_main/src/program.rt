@@ -4,6 +4,7 @@ ghost use Rattle.std.specs.Prelude.{◌≡◌, [], List, drop, false, map, strin
 ghost use Rattle.std.specs.Io.KnownBytes.{Keeps};
 ghost use Rattle.sbpl_cli.specs.Answered.{IsAnswered};
 ghost use Rattle.sbpl_cli.specs.sbpl_promises.Explained.{has_message};
+ghost use Rattle.sbpl_cli.specs.sbpl_promises.Run.{job_named, job_of};
 ghost use Rattle.sbpl_cli.specs.sbpl_promises.Promises.{IsStatus};
 ghost use Rattle.sbpl_cli.specs.sbpl_promises.Published.{Entry};
 ghost use Rattle.sbpl_main.specs.Given.{words_given};
@@ -44,8 +45,8 @@ pub fn start_at<R: AllocGlobal + Threads + Wait + Clock + Sync, D: Desk, E: io::
     // Every promise of `answer`, at this desk, where nothing was published before.
     ensures answered { (published : List Entry) × IsAnswered (map string_bytes words.now) (D.state desk) (D.state result.1) []
         published result.0 }
-    // At no terminal a message comes with the statuses 1 to 7 and 10 alone.
-    ensures quiet { is_terminal ≡ false → has_message result.0 ≡ false → Keeps (E.contents err.old) (E.contents err.new) }
+    // At no terminal a message comes with the statuses 1 to 7 and 10 alone, and of a job that makes plans with 0.
+    ensures quiet { is_terminal ≡ false → has_message (job_named words.now) result.0 ≡ false → Keeps (E.contents err.old) (E.contents err.new) }
 {
     runs_may_end_at_once();
     match Board::new(rt.alloc()) {
@@ -73,7 +74,7 @@ fn start_given<R: AllocGlobal + Threads + Wait + Clock + Sync, D: Desk, E: io::W
 ) -> (u8, D)
     ensures answered { (published : List Entry) × IsAnswered (words_given given.now) (D.state desk) (D.state result.1) []
         published result.0 }
-    ensures quiet { is_terminal ≡ false → has_message result.0 ≡ false → Keeps (E.contents err.old) (E.contents err.new) }
+    ensures quiet { is_terminal ≡ false → has_message (job_of (words_given given.now)) result.0 ≡ false → Keeps (E.contents err.old) (E.contents err.new) }
 {
     runs_may_end_at_once();
     match given {

@@ -4,6 +4,7 @@ ghost use Rattle.std.specs.Prelude.{◌≡◌, ◌<◌, ◌^◌, false, length, 
 ghost use Rattle.std.specs.Io.KnownBytes.{Keeps};
 ghost use Rattle.sbpl_cli.specs.Answered.{IsAnswered};
 ghost use Rattle.sbpl_cli.specs.sbpl_promises.Explained.{has_message};
+ghost use Rattle.sbpl_cli.specs.sbpl_promises.Run.{job_named};
 
 use sbpl_cli::{
     Board, Desk, Entry, LiveBoard, NoGate, Publisher, ReadStop, Reader, Status, Trouble, WriteStop,
@@ -149,7 +150,7 @@ fn answer_live<R: Threads + Wait + Sync, D: Desk, E: io::Write>(
     ensures answered { IsAnswered (map string_bytes words.now) (D.state desk.old) (D.state desk.new) publisher.old.published
         publisher.new.published result }
     ensures board { publisher.new.board ≡ publisher.old.board }
-    ensures quiet { has_message result ≡ false → Keeps (E.contents err.old) (E.contents err.new) }
+    ensures quiet { has_message (job_named words.now) result ≡ false → Keeps (E.contents err.old) (E.contents err.new) }
 {
     let mut live = LiveBoard::new(rt, board, publisher);
     answer(alloc, words, &mut live, desk, &NoGate, err)
@@ -240,7 +241,7 @@ pub(crate) fn answer_on<
     ensures answered { IsAnswered (map string_bytes words.now) (D.state desk) (D.state result.1) publisher.old.published
         publisher.new.published result.0 }
     ensures board { publisher.new.board ≡ publisher.old.board }
-    ensures quiet { is_terminal ≡ false → has_message result.0 ≡ false → Keeps (E.contents err.old) (E.contents err.new) }
+    ensures quiet { is_terminal ≡ false → has_message (job_named words.now) result.0 ≡ false → Keeps (E.contents err.old) (E.contents err.new) }
 {
     if is_terminal {
         return answer_at_terminal(rt, words, desk, err, board, publisher);

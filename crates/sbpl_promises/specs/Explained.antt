@@ -1,5 +1,5 @@
 -- What people are told of a run that did not do its job.
-use Rattle.std.specs.Prelude.{◌≡◌, ◌==◌, ◌||◌, ◌⊎◌, ℕ, Bool, List, [], Option, Some, None, codes}
+use Rattle.std.specs.Prelude.{◌≡◌, ◌==◌, ◌&&◌, ◌||◌, ◌⊎◌, ℕ, Bool, true, false, List, [], Option, Some, None, codes}
 use Rattle.sbpl_report.specs.sbpl_cfg.Environment.{Environment}
 use Rattle.sbpl_report.specs.sbpl_cfg.Faults as env_faults
 use Rattle.sbpl_report.specs.sbpl_mprim.Faults as prim_faults
@@ -26,10 +26,16 @@ use Rattle.sbpl_promises.specs.Texts.{HasChangeFault, HasEnvironmentFault, HasGr
 use Rattle.sbpl_promises.specs.WorldFiles.{WorldFiles}
 use Rattle.sbpl_promises.specs.Writing.{DeskState, Told}
 
--- the statuses of which people are told more: 1 for a flaw in labels, 2 for words, 3, 4, 5 and 10 for a fault in a file, 6 and 7 for a read and
--- a write that failed
-abbrev pub has_message : ℕ → Bool
-has_message s = (s == 1) || (s == 2) || (s == 3) || (s == 4) || (s == 5) || (s == 6) || (s == 7) || (s == 10)
+-- a job that makes plans, of which people may be told why there is no path
+abbrev pub is_planning : Option Job → Bool
+is_planning (Some (job.Plan j)) = true
+is_planning (Some (job.Nav j)) = true
+is_planning _ = false
+
+-- the statuses of which people are told more: 0 where a plan may have no path, 1 for a flaw in labels, 2 for words, 3, 4, 5 and 10 for a fault
+-- in a file, 6 and 7 for a read and a write that failed
+abbrev pub has_message : Option Job → ℕ → Bool
+has_message named s = ((s == 0) && is_planning named) || (s == 1) || (s == 2) || (s == 3) || (s == 4) || (s == 5) || (s == 6) || (s == 7) || (s == 10)
 
 -- a message on the first fault of the file of this name, of a format whose faults have places
 pub record IsOnFault {F : Type 0} (HasFault : List ℕ → F → Type 0) (place_of : F → ℕ) (held : Told) (name : List ℕ) (f : F) (m : List ℕ) : Type 0 where
@@ -114,10 +120,17 @@ IsFlawExplained (job.Check j) m = IsPlainMessage j.labels m
 IsFlawExplained (job.NavCheck j) m = IsPlainMessage j.labels m
 IsFlawExplained _ m = ⊥
 
+-- a message on the environment file of a job that makes plans: why the first has no path
+abbrev pub IsBlockExplained : Job → List ℕ → Type 0
+IsBlockExplained (job.Plan j) m = IsPlainMessage j.sources.env m
+IsBlockExplained (job.Nav j) m = IsPlainMessage j.env m
+IsBlockExplained _ m = ⊥
+
 -- What is told of a job that ended with a status: of its refusal, whose line the report has; of a flaw or a fault in its labels; that a write
--- failed; or nothing, where the job was done, and where memory ran out.
+-- failed; why a plan has no path; or nothing, where the job was done, and where memory ran out.
 pub data IsToldOf (before after : DeskState) (j : Job) (status : ℕ) (m : List ℕ) : Type 0 where
   of_refusal : (x : IsRefused before after status j) → Explains before.held (input_name j) x.refusal m → IsToldOf before after j status m
+  of_block : status ≡ 0 → IsBlockExplained j m → IsToldOf before after j status m
   of_flaw : status ≡ 1 → IsFlawExplained j m → IsToldOf before after j status m
   of_labels : status ≡ 10 → IsLabelFaultExplained before after j m → IsToldOf before after j status m
   of_write : status ≡ 7 → m ≡ unwritten_text → IsToldOf before after j status m

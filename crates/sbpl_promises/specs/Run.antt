@@ -18,7 +18,7 @@ pub use Rattle.sbpl_promises.specs.Texts.{Scope}
 pub use Rattle.sbpl_promises.specs.declared.section_stop.SectionStop.{SectionStop}
 pub use Rattle.sbpl_report.specs.sbpl_cost.PrimitiveCost.{IsFirstTooDear}
 pub use Rattle.sbpl_report.specs.sbpl_cost.World.{World}
-pub use Rattle.sbpl_report.specs.sbpl_job.Jobs.{IsJob, job_named, moves_in}
+pub use Rattle.sbpl_report.specs.sbpl_job.Jobs.{IsJob, job_named, job_of, moves_in}
 pub use Rattle.sbpl_report.specs.sbpl_job.declared.job.CheckJob.{CheckJob}
 pub use Rattle.sbpl_report.specs.sbpl_job.declared.job.DemoJob.{DemoJob}
 pub use Rattle.sbpl_report.specs.sbpl_job.declared.job.Job.{Job}

@@ -1,7 +1,8 @@
 use Rattle.std.proofs.Common.{◌≡◌, ℕ, List, [], map, string_bytes, None, Option, Some, IsSome, true, false, rules, inl, inr, refl, sym, ◌∙◌, subst}
 use Rattle.std.proofs.lemmas.Bool.{false≢true}
-use Rattle.sbpl_jobs.specs.sbpl_promises.Explained.{Explains, IsTold, IsToldOf, by_job, has_message, nothing, of_flaw, of_labels}
-use Rattle.sbpl_jobs.specs.sbpl_promises.Explained.{of_refusal, of_words, of_write, out_of_memory, unwritten}
+use Rattle.sbpl_jobs.specs.sbpl_promises.Explained.{Explains, IsBlockExplained, IsTold, IsToldOf, by_job, has_message, nothing, of_block}
+use Rattle.sbpl_jobs.specs.sbpl_promises.Explained.{of_flaw, of_labels, of_refusal, of_words, of_write, out_of_memory, unwritten}
+use Rattle.sbpl_jobs.specs.sbpl_job.declared.job.Job.TheVariants as job
 use Rattle.sbpl_jobs.specs.sbpl_promises.Run.{IsOrUnwritten, IsStatus, Job, job_named, refusal_status}
 use Rattle.sbpl_jobs.specs.sbpl_promises.Writing.{DeskState, Told}
 use Rattle.sbpl_jobs.specs.sbpl_report.Refusals.{input_name}
@@ -26,38 +27,51 @@ told_status status (inr (inl is)) = rw is refl
 told_status status (inr (inr is)) = rw is refl
 
 -- a status with a message is not one without
-not_quiet : (n status : ℕ) → n ≡ status → has_message n ≡ true → has_message status ≡ false → ⊥
-not_quiet n status is has quiet =
-    let none : has_message n ≡ false = subst (λ (k : ℕ). has_message k ≡ false) (sym is) quiet in
+not_quiet : (named : Option Job) (n status : ℕ) → n ≡ status → has_message named n ≡ true → has_message named status ≡ false
+    → ⊥
+not_quiet named n status is has quiet =
+    let none : has_message named n ≡ false = subst (λ (k : ℕ). has_message named k ≡ false) (sym is) quiet in
     false≢true (sym none ∙ has)
 
 -- of a refusal whose status has no message nothing is told
-refusal_quiet : (held : Told) (names : Input → List ℕ) (m : List ℕ) (status : ℕ) (r : Refusal)
-    → refusal_status r ≡ status → Explains held names r m → has_message status ≡ false → m ≡ []
-refusal_quiet held names m status (refusal.Length i) is none quiet = none
-refusal_quiet held names m status (refusal.Environment f) is on quiet = absurd (not_quiet 3 status is refl quiet)
-refusal_quiet held names m status (refusal.Grid f) is on quiet = absurd (not_quiet 3 status is refl quiet)
-refusal_quiet held names m status (refusal.Primitives f) is on quiet = absurd (not_quiet 4 status is refl quiet)
-refusal_quiet held names m status (refusal.TooWide i) is on quiet = absurd (not_quiet 4 status is refl quiet)
-refusal_quiet held names m status (refusal.TooDear i) is on quiet = absurd (not_quiet 4 status is refl quiet)
-refusal_quiet held names m status (refusal.Changes f) is on quiet = absurd (not_quiet 5 status is refl quiet)
-refusal_quiet held names m status (refusal.Read i) is on quiet = absurd (not_quiet 6 status is refl quiet)
+refusal_quiet : (named : Option Job) (held : Told) (names : Input → List ℕ) (m : List ℕ) (status : ℕ) (r : Refusal)
+    → refusal_status r ≡ status → Explains held names r m → has_message named status ≡ false → m ≡ []
+refusal_quiet named held names m status (refusal.Length i) is none quiet = none
+refusal_quiet named held names m status (refusal.Environment f) is on quiet = absurd (not_quiet named 3 status is refl quiet)
+refusal_quiet named held names m status (refusal.Grid f) is on quiet = absurd (not_quiet named 3 status is refl quiet)
+refusal_quiet named held names m status (refusal.Primitives f) is on quiet = absurd (not_quiet named 4 status is refl quiet)
+refusal_quiet named held names m status (refusal.TooWide i) is on quiet = absurd (not_quiet named 4 status is refl quiet)
+refusal_quiet named held names m status (refusal.TooDear i) is on quiet = absurd (not_quiet named 4 status is refl quiet)
+refusal_quiet named held names m status (refusal.Changes f) is on quiet = absurd (not_quiet named 5 status is refl quiet)
+refusal_quiet named held names m status (refusal.Read i) is on quiet = absurd (not_quiet named 6 status is refl quiet)
+
+-- a job that makes plans may tell something with status 0
+block_quiet : (j : Job) (status : ℕ) (m : List ℕ) → status ≡ 0 → IsBlockExplained j m → has_message (Some j) status ≡ false
+    → m ≡ []
+block_quiet (job.Plan j) status m is told quiet = absurd (not_quiet (Some (job.Plan j)) 0 status (sym is) refl quiet)
+block_quiet (job.Nav j) status m is told quiet = absurd (not_quiet (Some (job.Nav j)) 0 status (sym is) refl quiet)
+block_quiet (job.Check j) status m is told quiet = absurd told
+block_quiet (job.NavCheck j) status m is told quiet = absurd told
+block_quiet (job.Sweep j) status m is told quiet = absurd told
+block_quiet (job.Demo j) status m is told quiet = absurd told
 
 -- so it is of a job, and of a run
 job_quiet : {s u : DeskState} {j : Job} {status : ℕ} {m : List ℕ} → IsToldOf s u j status m
-    → has_message status ≡ false → m ≡ []
+    → has_message (Some j) status ≡ false → m ≡ []
 job_quiet {s} {j = j} {status = status} {m = m} (of_refusal x explains) quiet =
-    refusal_quiet s.held (input_name j) m status x.refusal x.has_status explains quiet
-job_quiet {status = status} (of_flaw is told) quiet = absurd (not_quiet 1 status (sym is) refl quiet)
-job_quiet {status = status} (of_labels is told) quiet = absurd (not_quiet 10 status (sym is) refl quiet)
-job_quiet {status = status} (of_write is told) quiet = absurd (not_quiet 7 status (sym is) refl quiet)
+    refusal_quiet (Some j) s.held (input_name j) m status x.refusal x.has_status explains quiet
+job_quiet {j = j} {status = status} {m = m} (of_block is told) quiet = block_quiet j status m is told quiet
+job_quiet {j = j} {status = status} (of_flaw is told) quiet = absurd (not_quiet (Some j) 1 status (sym is) refl quiet)
+job_quiet {j = j} {status = status} (of_labels is told) quiet = absurd (not_quiet (Some j) 10 status (sym is) refl quiet)
+job_quiet {j = j} {status = status} (of_write is told) quiet = absurd (not_quiet (Some j) 7 status (sym is) refl quiet)
 job_quiet (nothing is none) quiet = none
 
 quiet_by : {named : Option Job} {s u : DeskState} {status : ℕ} {m : List ℕ} → IsTold named s u status m
-    → has_message status ≡ false → m ≡ []
-quiet_by (by_job (j, is, told)) quiet = job_quiet told quiet
-quiet_by {status = status} (of_words none is plain) quiet = absurd (not_quiet 2 status (sym is) refl quiet)
-quiet_by {status = status} (unwritten is told) quiet = absurd (not_quiet 7 status (sym is) refl quiet)
+    → has_message named status ≡ false → m ≡ []
+quiet_by {status = status} (by_job (j, is, told)) quiet =
+    job_quiet told (subst (λ (n : Option Job). has_message n status ≡ false) is quiet)
+quiet_by {named = named} {status = status} (of_words none is plain) quiet = absurd (not_quiet named 2 status (sym is) refl quiet)
+quiet_by {named = named} {status = status} (unwritten is told) quiet = absurd (not_quiet named 7 status (sym is) refl quiet)
 quiet_by (out_of_memory is none) quiet = none
 
 pub returns-in-Some-clause-answered : goal.returns-in-Some-clause-answered

@@ -8,13 +8,14 @@ use Rattle.sbpl_checks.proofs.Frames.{writes_after}
 use Rattle.sbpl_plans.specs.Boards.{entries_of}
 use Rattle.sbpl_jobs.proofs.Ends.{ended}
 use Rattle.sbpl_jobs.proofs.Planned.{all_shown, as_told, planned}
-use Rattle.sbpl_jobs.proofs.Telling.{plain_ending, plans_end}
+use Rattle.sbpl_jobs.proofs.Telling.{planning_ending, plans_end}
 use Rattle.sbpl_jobs.proofs.nav_job.run_nav.Goals as goal
 
 pub returns-clause-ends : goal.returns-clause-ends
 returns-clause-ends g c =
     let e = as_told grid_site false c.requires.range.1 c.make_plans-status.ensures.ends in
-    plain_ending _ _ _ _ _ _ _ (ap number_of c.plain.ensures.status) c.plain.ensures.untold (plans_end e.all _ e.ends)
+    planning_ending _ _ _ _ (job.Nav c.args.job.now) c.args.job.now.env _ _ (ap number_of c.planned.ensures.status)
+    (rw c.as_str.ensures.name at c.planned.ensures.told) (λ plain. plain) (plans_end e.all _ e.ends)
     (ended _ (g.D.Desk.state c.read_grid_updates.new.desk) _ _ _ (job.Nav c.args.job.now)
     (Planned e.records e.all (entries_of c.args.live.now) e.broken) _ refl
     (all_shown grid_site c.in_ok-nav.updates c.ends-start.result.0 e)

@@ -16,10 +16,10 @@ use Rattle.sbpl_checks.specs.sbpl_promises.declared.updates.Updates.{Updates}
 use Rattle.sbpl_checks.specs.sbpl_report.Statuses.{number_of}
 use Rattle.sbpl_checks.specs.sbpl_telling.declared.ending.Ending.{Ending}
 use Rattle.sbpl_checks.proofs.Frames.{writes_after}
-use Rattle.sbpl_jobs.specs.Endings.{IsJobEnding}
+use Rattle.sbpl_jobs.specs.Endings.{IsJobEnding, IsPlainOrBlocked}
 use Rattle.sbpl_jobs.proofs.Ends.{ended}
 use Rattle.sbpl_jobs.proofs.Planned.{all_shown, as_told, updates_on, planned}
-use Rattle.sbpl_jobs.proofs.Telling.{plain_ending, plans_end}
+use Rattle.sbpl_jobs.proofs.Telling.{planning_ending, plans_end}
 use Rattle.sbpl_jobs.proofs.plan_job.run_plan.Goals as goal
 
 -- the job ends so, where its plans end so on the lattice and the updates that were read
@@ -29,10 +29,11 @@ planned_so : (s t u : DeskState) (j : PlanJob) (log shown : List Entry) (w : Wor
     (start_after lattice_site.reporting w start updates.moves) goal 0 log shown None t u status
     → lattice_site.reporting.starts w start → lattice_site.reporting.ends w goal
     → ReadsWorld s.held j.sources w → ReadsUpdates s.held j.changes (scope_of (may_move j.search.planner) w) updates
-    → ReadsOnly s t → WritesOnly (IsOutputOf j.outputs) t u → number_of ending.status ≡ status → ending.why ≡ []
+    → ReadsOnly s t → WritesOnly (IsOutputOf j.outputs) t u → number_of ending.status ≡ status
+    → IsPlainOrBlocked j.sources.env ending
     → IsJobEnding s u log shown (job.Plan j) ending
-planned_so s t u j log shown w updates start goal status ending e start_is goal_is says changes_say read wrote is untold =
-    plain_ending s u log shown (job.Plan j) status ending is untold (plans_end e.all status e.ends)
+planned_so s t u j log shown w updates start goal status ending e start_is goal_is says changes_say read wrote is told =
+    planning_ending s u log shown (job.Plan j) j.sources.env status ending is told (λ plain. plain) (plans_end e.all status e.ends)
     (ended s t u log shown (job.Plan j) (Planned e.records e.all log e.broken) status refl
     (all_shown lattice_site updates start e)
     (record {
@@ -69,28 +70,28 @@ make_plans-status-requires-2-clause-task g c = λ κs live. record {
 pub returns-then-moving-clause-ends : goal.returns-then-moving-clause-ends
 returns-then-moving-clause-ends g c =
     planned_so (g.D.Desk.state c.args.desk.now) (g.D.Desk.state c.read_updates.new.desk) _ c.args.job.now _ _
-    c.in_ok-lattice.lattice c.in_ok-lattice.updates c.ends-start.result.0 c.ends-start.result.1 _ c.plain.result
+    c.in_ok-lattice.lattice c.in_ok-lattice.updates c.ends-start.result.0 c.ends-start.result.1 _ c.planned.result
     (as_told lattice_site true (sym c.may_move-moving.ensures.value ∙ c.if-moving.true)
     (rw c.new-world.ensures.lattice at c.make_plans-status.ensures.ends))
     c.ends-start.ensures.start c.ends-start.ensures.goal c.in_ok-lattice.ensures.updates.says
     (subst (λ (b : Bool). ReadsUpdates (g.D.Desk.state c.args.desk.now).held c.args.job.now.changes
     (scope_of b c.in_ok-lattice.lattice) c.in_ok-lattice.updates)
     c.may_move-moving.ensures.value c.in_ok-lattice.ensures.updates.updates_are)
-    c.in_ok-lattice.ensures.frame c.make_plans-status.ensures.frame (ap number_of c.plain.ensures.status)
-    c.plain.ensures.untold
+    c.in_ok-lattice.ensures.frame c.make_plans-status.ensures.frame (ap number_of c.planned.ensures.status)
+    (rw c.as_str.ensures.name at c.planned.ensures.told)
 
 pub returns-clause-ends : goal.returns-clause-ends
 returns-clause-ends g c =
     planned_so (g.D.Desk.state c.args.desk.now) (g.D.Desk.state c.read_updates.new.desk) _ c.args.job.now _ _
-    c.in_ok-lattice.lattice c.in_ok-lattice.updates c.ends-start.result.0 c.ends-start.result.1 _ c.plain-2.result
+    c.in_ok-lattice.lattice c.in_ok-lattice.updates c.ends-start.result.0 c.ends-start.result.1 _ c.planned-2.result
     (as_told lattice_site false (sym c.may_move-moving.ensures.value ∙ c.if-moving.false)
     c.make_plans-status-2.ensures.ends)
     c.ends-start.ensures.start c.ends-start.ensures.goal c.in_ok-lattice.ensures.updates.says
     (subst (λ (b : Bool). ReadsUpdates (g.D.Desk.state c.args.desk.now).held c.args.job.now.changes
     (scope_of b c.in_ok-lattice.lattice) c.in_ok-lattice.updates)
     c.may_move-moving.ensures.value c.in_ok-lattice.ensures.updates.updates_are)
-    c.in_ok-lattice.ensures.frame c.make_plans-status-2.ensures.frame (ap number_of c.plain-2.ensures.status)
-    c.plain-2.ensures.untold
+    c.in_ok-lattice.ensures.frame c.make_plans-status-2.ensures.frame (ap number_of c.planned-2.ensures.status)
+    (rw c.as_str-2.ensures.name at c.planned-2.ensures.told)
 
 pub returns-then-moving-clause-frame : goal.returns-then-moving-clause-frame
 returns-then-moving-clause-frame g c = writes_after _ _ _ _ c.in_ok-lattice.ensures.frame c.make_plans-status.ensures.frame
