@@ -35,16 +35,37 @@ fn tell<D: Desk>(alloc: Global, asked: Asked, desk: &mut D) -> Status
     status_after(desk.write("-", text.as_bytes()), Status::Done)
 }
 
+/// What is said of a write that failed besides, where the desk says what was in the way.
+fn hindrance(trouble: Trouble) -> &'static str {
+    match trouble {
+        Trouble::Missing => ": there is no such folder",
+        Trouble::Folder => ": a folder has this name",
+        Trouble::Forbidden => ": the program is not allowed to write there",
+        Trouble::Taken =>
+            ": under another name the file is one that was read, or that is written already",
+        Trouble::Untold | Trouble::Unread => "",
+    }
+}
+
 /// Tells on `err` why a run that ended so did not do its job, if it did not. Where nobody reads the output any more, as after
 /// `| head`, there is nothing to tell.
 fn explain<E: io::Write>(ending: &Ending, trouble: Trouble, err: &mut E)
     ensures quiet { message_of ending.now ≡ [] → Keeps (E.contents err.old) (E.contents err.new) }
 {
-    let message = ending.message();
-    if !message.is_empty() && trouble != Trouble::Unread {
-        // The status says it all where even this cannot be written.
-        let _ = err.write_all(message);
+    let [line @ .., end] = ending.message() else {
+        return;
+    };
+    if trouble == Trouble::Unread {
+        return;
     }
+    let besides = match ending.status {
+        Status::NotWritten => hindrance(trouble),
+        _ => "",
+    };
+    // The status says it all where even this cannot be written.
+    let _ = err.write_all(line);
+    let _ = err.write_all(besides.as_bytes());
+    let _ = err.write_all(&[*end]);
 }
 
 #[tactic(none)]

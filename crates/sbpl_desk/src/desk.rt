@@ -47,6 +47,8 @@ pub enum Trouble {
     Folder,
     /// The program is not allowed to.
     Forbidden,
+    /// The file is one that was read, or that is written under another name.
+    Taken,
     /// Nobody reads what is written any more.
     Unread,
 }

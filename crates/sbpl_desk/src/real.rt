@@ -175,18 +175,27 @@ fn read_file<R: Files + Alloc>(
 fn begin_output<R: Files + Alloc>(
     rt: &R,
     used: &mut Vec<FileId, R::A>,
+    trouble: &mut Trouble,
     name: &str,
 ) -> Result<R::File, WriteStop> {
     used.reserve(1)?;
     let opened = OpenOptions::new().write(true).create(true).open(rt, name);
-    let Ok(file) = opened else {
-        return Err(WriteStop::Failed);
+    let file = match opened {
+        Ok(file) => file,
+        Err(error) => {
+            *trouble = trouble_of(&error);
+            return Err(WriteStop::Failed);
+        }
     };
     let Ok(metadata) = file.metadata() else {
         return Err(WriteStop::Failed);
     };
     if let Some(id) = id_of(&metadata) {
-        if used.contains(&id) || file.set_len(0).is_err() {
+        if used.contains(&id) {
+            *trouble = Trouble::Taken;
+            return Err(WriteStop::Failed);
+        }
+        if file.set_len(0).is_err() {
             return Err(WriteStop::Failed);
         }
         used.push_reserved(id);
@@ -199,6 +208,7 @@ fn open_output<R: Files + Alloc>(
     rt: &R,
     begun: &mut Vec<String<R::A>, R::A>,
     used: &mut Vec<FileId, R::A>,
+    trouble: &mut Trouble,
     name: &str,
 ) -> Result<R::File, WriteStop> {
     if begun.iter().any(|other| other.as_str() == name) {
@@ -208,7 +218,7 @@ fn open_output<R: Files + Alloc>(
             .map_err(|_| WriteStop::Failed);
     }
     begun.push(String::from_str(rt.alloc(), name)?)?;
-    let opened = begin_output(rt, used, name);
+    let opened = begin_output(rt, used, trouble, name);
     if opened.is_err() {
         begun.pop();
     }
@@ -246,7 +256,13 @@ impl<R: Files + Print + Alloc> Desk for RealDesk<R> {
         let result = if name == "-" {
             write_whole(&mut io::writer(&self.rt), bytes, &mut self.trouble)
         } else {
-            match open_output(&self.rt, &mut self.begun, &mut self.used, name) {
+            match open_output(
+                &self.rt,
+                &mut self.begun,
+                &mut self.used,
+                &mut self.trouble,
+                name,
+            ) {
                 Ok(mut file) => write_whole(&mut file, bytes, &mut self.trouble),
                 Err(stop) => Err(stop),
             }

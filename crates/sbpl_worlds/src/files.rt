@@ -26,7 +26,7 @@ fn unread(trouble: Trouble) -> &'static str {
         Trouble::Missing => "there is no such file",
         Trouble::Folder => "this is a folder, and not a file",
         Trouble::Forbidden => "the program is not allowed to read this file",
-        Trouble::Untold | Trouble::Unread =>
+        Trouble::Untold | Trouble::Taken | Trouble::Unread =>
             "the file could not be read: it must exist, and the program must be allowed to read it",
     }
 }
