@@ -1,13 +1,10 @@
 //! The program from its start: its words, and its exit status.
 
-ghost use Rattle.std.specs.Prelude.{◌≡◌, [], List, drop, false, map, string_bytes};
-ghost use Rattle.std.specs.Io.KnownBytes.{Keeps};
+ghost use Rattle.std.specs.Prelude.{◌≡◌, [], List, drop, map, string_bytes};
 ghost use Rattle.sbpl_cli.specs.Answered.{IsAnswered};
-ghost use Rattle.sbpl_cli.specs.sbpl_promises.Explained.{has_message};
-ghost use Rattle.sbpl_cli.specs.sbpl_promises.Run.{job_named, job_of};
 ghost use Rattle.sbpl_cli.specs.sbpl_promises.Promises.{IsStatus};
 ghost use Rattle.sbpl_cli.specs.sbpl_promises.Published.{Entry};
-ghost use Rattle.sbpl_main.specs.Given.{words_given};
+ghost use Rattle.sbpl_main.specs.Given.{IsQuiet, words_given};
 
 use crate::progress::answer_on;
 use sbpl_cli::{Board, Desk, RealDesk, Status, runs_may_end_at_once};
@@ -46,7 +43,7 @@ pub fn start_at<R: AllocGlobal + Threads + Wait + Clock + Sync, D: Desk, E: io::
     ensures answered { (published : List Entry) × IsAnswered (map string_bytes words.now) (D.state desk) (D.state result.1) []
         published result.0 }
     // At no terminal a message comes with the statuses 1 to 7 and 10 alone, and of a job that makes plans with 0.
-    ensures quiet { is_terminal ≡ false → has_message (job_named words.now) result.0 ≡ false → Keeps (E.contents err.old) (E.contents err.new) }
+    ensures quiet { IsQuiet is_terminal (map string_bytes words.now) result.0 (E.contents err.old) (E.contents err.new) }
 {
     runs_may_end_at_once();
     match Board::new(rt.alloc()) {
@@ -74,7 +71,7 @@ fn start_given<R: AllocGlobal + Threads + Wait + Clock + Sync, D: Desk, E: io::W
 ) -> (u8, D)
     ensures answered { (published : List Entry) × IsAnswered (words_given given.now) (D.state desk) (D.state result.1) []
         published result.0 }
-    ensures quiet { is_terminal ≡ false → has_message (job_of (words_given given.now)) result.0 ≡ false → Keeps (E.contents err.old) (E.contents err.new) }
+    ensures quiet { IsQuiet is_terminal (words_given given.now) result.0 (E.contents err.old) (E.contents err.new) }
 {
     runs_may_end_at_once();
     match given {

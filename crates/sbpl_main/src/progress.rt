@@ -5,6 +5,7 @@ ghost use Rattle.std.specs.Io.KnownBytes.{Keeps};
 ghost use Rattle.sbpl_cli.specs.Answered.{IsAnswered};
 ghost use Rattle.sbpl_cli.specs.sbpl_promises.Explained.{has_message};
 ghost use Rattle.sbpl_cli.specs.sbpl_promises.Run.{job_named};
+ghost use Rattle.sbpl_main.specs.Given.{IsQuiet};
 
 use sbpl_cli::{
     Board, Desk, Entry, LiveBoard, NoGate, Publisher, ReadStop, Reader, Status, Trouble, WriteStop,
@@ -241,7 +242,7 @@ pub(crate) fn answer_on<
     ensures answered { IsAnswered (map string_bytes words.now) (D.state desk) (D.state result.1) publisher.old.published
         publisher.new.published result.0 }
     ensures board { publisher.new.board ≡ publisher.old.board }
-    ensures quiet { is_terminal ≡ false → has_message (job_named words.now) result.0 ≡ false → Keeps (E.contents err.old) (E.contents err.new) }
+    ensures quiet { IsQuiet is_terminal (map string_bytes words.now) result.0 (E.contents err.old) (E.contents err.new) }
 {
     if is_terminal {
         return answer_at_terminal(rt, words, desk, err, board, publisher);
