@@ -13,7 +13,7 @@ import os
 import re
 import struct
 import sys
-from dataclasses import dataclass, field
+from dataclasses import dataclass, field, replace
 from decimal import ROUND_HALF_EVEN, Decimal, InvalidOperation
 from typing import Callable, Iterator, NamedTuple
 
@@ -334,11 +334,16 @@ def read_grid(tokens: Tokens, cell: int) -> Environment:
         x, y = (tokens.whole(f"{axis} of the {name}", 0, MOST_STATES - 1) for axis in "xy")
         if not (x < width and y < height):
             raise tokens.fault(f"the {name} lies off the map")
-        poses.append(Pose((2 * x + 1) * cell // 2, (2 * y + 1) * cell // 2, 0))
+        poses.append(cell_pose(cell, x, y))
     tokens.word("environment:")
     costs = [[tokens.whole("a cost", 0, 255) for _ in range(width)] for _ in range(height)]
     tokens.end()
     return Environment(width, height, GRID_HEADINGS, obsthresh, obsthresh, 0, cell, 0, 0, *poses, costs)
+
+
+def cell_pose(cell: int, x: int, y: int) -> Pose:
+    """The middle of a cell of a grid."""
+    return Pose((2 * x + 1) * cell // 2, (2 * y + 1) * cell // 2, 0)
 
 
 def read_environment(path: str, cell: int | None = None) -> Environment:
@@ -377,6 +382,32 @@ def read_environment(path: str, cell: int | None = None) -> Environment:
     costs = [[tokens.whole("a cost", 0, 255) for _ in range(width)] for _ in range(height)]
     tokens.end()
     return Environment(width, height, headings, *thresholds, *scales, *poses, costs)
+
+
+def add_ends(parser: argparse.ArgumentParser) -> None:
+    """The settings that place the start and the goal, as `temjoask plan` and `temjoask nav` have them."""
+    for name, end in [("--start", "start"), ("--goal", "end")]:
+        parser.add_argument(name, metavar="X,Y,T", help=f"the plan's {name}; for a grid the cell X,Y (default: the environment "
+                                                       f"file's {end})")
+
+
+def given_pose(environment: Environment, name: str, word: str) -> Pose:
+    """The pose that a word gives: X,Y,T in metres and radians, or X,Y as the cell of a grid."""
+    values = [whole(part) if environment.is_grid else nano(part) for part in word.split(",")]
+    form = "X,Y, two whole numbers" if environment.is_grid else "X,Y,T, three decimals"
+    if None in values or len(values) != (2 if environment.is_grid else 3):
+        raise BadInput(f"{name} must be {form}, found {word!r}")
+    pose = cell_pose(environment.cell, *values) if environment.is_grid else Pose(*values)
+    if not environment.is_on_map(pose.x // environment.cell, pose.y // environment.cell):
+        raise BadInput(f"{name} {word} lies off the map")
+    return pose
+
+
+def posed(environment: Environment, words: argparse.Namespace) -> Environment:
+    """An environment with the start and the goal of the command line in place of its own."""
+    start = given_pose(environment, "--start", words.start) if words.start else environment.start
+    end = given_pose(environment, "--goal", words.goal) if words.goal else environment.end
+    return replace(environment, start=start, end=end)
 
 
 def read_primitive(tokens: Tokens, cell: int, headings: int, poses_before: int) -> Primitive:

@@ -13,9 +13,9 @@ use Rattle.sbpl_promises.specs.sbpl_fixed.declared.fault.NumFault.{NumFault}
 use Rattle.sbpl_promises.specs.sbpl_job.Forms.{Apart, ArePartsOf, Form, IsFit, Joined, PartsAreOfForms, Plain}
 use Rattle.sbpl_promises.specs.sbpl_job.Forms.{form_words, given_of, name_of, plain_of}
 use Rattle.sbpl_promises.specs.sbpl_job.Jobs.{Settings, budget_by, budget_in, differ, form_by, is_input, job_by, job_of, job_with}
-use Rattle.sbpl_promises.specs.sbpl_job.Jobs.{may_move, milli_by, milli_in, nav_by, nav_in, output_by, outputs_by, outputs_in}
+use Rattle.sbpl_promises.specs.sbpl_job.Jobs.{grid_sources_by, may_move, milli_by, milli_in, nav_by, nav_in, output_by, outputs_by, outputs_in}
 use Rattle.sbpl_promises.specs.sbpl_job.Jobs.{plan_by, plan_in, planner_by, radius_by, radius_in, search_in, grid_search_in}
-use Rattle.sbpl_promises.specs.sbpl_job.Jobs.{sources_by, workers_by}
+use Rattle.sbpl_promises.specs.sbpl_job.Jobs.{pose_by, sources_by, square_by, workers_by}
 use Rattle.sbpl_promises.specs.sbpl_job.Words.{WordParts, id_of, is_plain_word, is_setting, parts_of, takes}
 use Rattle.sbpl_promises.specs.sbpl_job.Words as given
 use Rattle.sbpl_promises.specs.sbpl_job.declared.job.Job.{Job}
@@ -26,7 +26,10 @@ use Rattle.sbpl_promises.specs.sbpl_job.declared.job.Outputs.{Outputs}
 use Rattle.sbpl_promises.specs.sbpl_job.declared.job.PlanJob.{PlanJob}
 use Rattle.sbpl_promises.specs.sbpl_job.declared.job.Planner.{Planner}
 use Rattle.sbpl_promises.specs.sbpl_job.declared.job.SearchJob.{SearchJob}
+use Rattle.sbpl_promises.specs.sbpl_job.declared.job.GridSources.{GridSources}
 use Rattle.sbpl_promises.specs.sbpl_job.declared.job.Sources.{Sources}
+use Rattle.sbpl_promises.specs.sbpl_job.declared.job.Square.{Square}
+use Rattle.sbpl_promises.specs.sbpl_cfg.declared.pose.Pose.{Pose}
 use Rattle.sbpl_promises.specs.sbpl_job.declared.words.Command.{Command}
 use Rattle.sbpl_promises.specs.sbpl_job.declared.words.Command.TheVariants as command
 use Rattle.sbpl_promises.specs.sbpl_job.declared.words.Setting.{Setting}
@@ -77,6 +80,8 @@ name_tested setting.Labels = refl
 name_tested setting.LabelsAs = refl
 name_tested setting.Trace = refl
 name_tested setting.Incumbent = refl
+name_tested setting.Start = refl
+name_tested setting.Goal = refl
 
 -- a form that is fit is a part
 is_part : (c : Command) (f : Form) → IsFit c f → IsPart (part_of f)
@@ -233,15 +238,22 @@ grid_stays (Some t) s h = either (may_move t.planner) h
 -- ---- what is asked
 
 -- what a job's numbers ask
-abbrev pub asked_by : Option Word → (radius : ℕ) → SearchJob → Asked
-asked_by changes radius search =
-    record { changes = changes; radius = radius; bound = search.bound; budget = search.budget }
+abbrev pub asked_by : (changes start goal : Option Word) → (radius : ℕ) → SearchJob → Asked
+asked_by changes start goal radius search = record {
+  changes = changes;
+  start = start;
+  goal = goal;
+  radius = radius;
+  bound = search.bound;
+  budget = search.budget;
+}
 
 -- words with these parts ask what their settings say
 asks : (c : Command) (rest : List Word) (p : WordParts) (radius : ℕ) (search : SearchJob) → ArePartsOf c rest p
     → RadiusIs (given.value_of setting.Radius p.given) radius
     → search_in (λ s. given.value_of s p.given) ≡ Some search
-    → Ask rest p.plain (asked_by (given.value_of setting.Changes p.given) radius search)
+    → Ask rest p.plain (asked_by (given.value_of setting.Changes p.given) (given.value_of setting.Start p.given)
+    (given.value_of setting.Goal p.given) radius search)
 asks c rest p radius search it near h =
     let parts = map part_of it.forms in
     let same : (s : Setting) → given.value_of s p.given ≡ value_of (name_of s) parts =
@@ -253,6 +265,8 @@ asks c rest p radius search it near h =
       spelled = it.spelled ∙ words_same it.forms;
       plain_words = it.plain ∙ plain_same it.forms;
       changes = same setting.Changes;
+      start = same setting.Start;
+      goal = same setting.Goal;
       radius = subst (λ (o : Option Word). RadiusIs o radius) (same setting.Radius) near;
       bound =
           subst (λ (o : Option Word). BoundIs o search.bound) (same setting.Bound)
@@ -404,38 +418,50 @@ plan_of from changes (Some o) None j h = absurd (none-some j h)
 plan_of from changes (Some o) (Some s) j h = (o, s, refl, refl, same_Some (plan_by from changes o s) j h)
 
 -- so it is on a grid
-nav_of : (env : Word) (changes : Option Word) (outputs : Option Outputs) (search : Option SearchJob) (j : Job)
-    → option_and_then (λ o. option_map (nav_by env changes o) search) outputs ≡ Some j
-    → (o : Outputs) × (s : SearchJob) × (outputs ≡ Some o) × (search ≡ Some s) × (nav_by env changes o s ≡ j)
-nav_of env changes None search j h = absurd (none-some j h)
-nav_of env changes (Some o) None j h = absurd (none-some j h)
-nav_of env changes (Some o) (Some s) j h = (o, s, refl, refl, same_Some (nav_by env changes o s) j h)
+nav_of : (from : GridSources) (changes : Option Word) (outputs : Option Outputs) (search : Option SearchJob) (j : Job)
+    → option_and_then (λ o. option_map (nav_by from changes o) search) outputs ≡ Some j
+    → (o : Outputs) × (s : SearchJob) × (outputs ≡ Some o) × (search ≡ Some s) × (nav_by from changes o s ≡ j)
+nav_of from changes None search j h = absurd (none-some j h)
+nav_of from changes (Some o) None j h = absurd (none-some j h)
+nav_of from changes (Some o) (Some s) j h = (o, s, refl, refl, same_Some (nav_by from changes o s) j h)
 
 -- a plan on a lattice: its files, its radius, its changes, its search and its outputs
 record IsPlanBy (env prims : Word) (set : Settings) (j : Job) : Type 0 where
   radius : ℕ
   radius_is : radius_by (set setting.Radius) ≡ Some radius
+  start : Option Pose
+  start_is : pose_by (set setting.Start) ≡ Some start
+  goal : Option Pose
+  goal_is : pose_by (set setting.Goal) ≡ Some goal
   outputs : Outputs
   outputs_are : outputs_in (env ∷ prims ∷ []) (set setting.Changes) set ≡ Some outputs
   search : SearchJob
   search_is : search_in set ≡ Some search
   same :
-      plan_by (record { env = env; prims = prims; radius = radius }) (set setting.Changes) outputs search ≡ j
+      plan_by (record { env = env; prims = prims; radius = radius; start = start; goal = goal }) (set setting.Changes)
+      outputs search ≡ j
 
 -- a job `plan` whose radius is known has these parts
-plan_with : (env prims : Word) (set : Settings) (radius : Option ℕ) (j : Job)
-    → radius_by (set setting.Radius) ≡ radius
+plan_with : (env prims : Word) (set : Settings) (radius : Option ℕ) (start goal : Option (Option Pose)) (j : Job)
+    → radius_by (set setting.Radius) ≡ radius → pose_by (set setting.Start) ≡ start
+    → pose_by (set setting.Goal) ≡ goal
     → option_and_then (λ from. option_and_then (λ o. option_map (plan_by from (set setting.Changes) o) (search_in set))
-    (outputs_in (from.env ∷ (from.prims ∷ [])) (set setting.Changes) set)) (sources_by env prims radius) ≡ Some j
+    (outputs_in (from.env ∷ (from.prims ∷ [])) (set setting.Changes) set)) (sources_by env prims radius start goal) ≡ Some j
     → IsPlanBy env prims set j
-plan_with env prims set None j e h = absurd (none-some j h)
-plan_with env prims set (Some r) j e h =
-    let from : Sources = record { env = env; prims = prims; radius = r } in
+plan_with env prims set None start goal j e e' e'' h = absurd (none-some j h)
+plan_with env prims set (Some r) None goal j e e' e'' h = absurd (none-some j h)
+plan_with env prims set (Some r) (Some s) None j e e' e'' h = absurd (none-some j h)
+plan_with env prims set (Some r) (Some s) (Some g) j e e' e'' h =
+    let from : Sources = record { env = env; prims = prims; radius = r; start = s; goal = g } in
     let it =
     plan_of from (set setting.Changes) (outputs_in (env ∷ prims ∷ []) (set setting.Changes) set) (search_in set) j h in
     record {
       radius = r;
       radius_is = e;
+      start = s;
+      start_is = e';
+      goal = g;
+      goal_is = e'';
       outputs = it.0;
       outputs_are = it.2;
       search = it.1;
@@ -445,14 +471,28 @@ plan_with env prims set (Some r) j e h =
 
 -- a job `plan` has these parts
 plan_is : (env prims : Word) (set : Settings) (j : Job) → plan_in env prims set ≡ Some j → IsPlanBy env prims set j
-plan_is env prims set j h = plan_with env prims set (radius_by (set setting.Radius)) j refl h
+plan_is env prims set j h =
+    plan_with env prims set (radius_by (set setting.Radius)) (pose_by (set setting.Start)) (pose_by (set setting.Goal)) j
+    refl refl refl h
+
+-- a job `nav` has these sources, and the rest of it is what its settings say
+nav_with : (env : Word) (set : Settings) (start goal : Option (Option Square)) (j : Job)
+    → option_and_then (λ from. option_and_then (λ o. option_map (nav_by from (set setting.Changes) o) (grid_search_in set))
+    (outputs_in (from.env ∷ []) (set setting.Changes) set)) (grid_sources_by env start goal) ≡ Some j
+    → (s : Option Square) × (g : Option Square) × (start ≡ Some s) × (goal ≡ Some g)
+    × (option_and_then (λ o. option_map (nav_by (record { env = env; start = s; goal = g }) (set setting.Changes) o)
+    (grid_search_in set)) (outputs_in (env ∷ []) (set setting.Changes) set) ≡ Some j)
+nav_with env set None goal j h = absurd (none-some j h)
+nav_with env set (Some s) None j h = absurd (none-some j h)
+nav_with env set (Some s) (Some g) j h = (s, g, refl, refl, h)
 
 -- ---- both commands
 
 -- the words after `plan` ask what the job has in it, and no output is the standard output
 pub plan_asked : PartsAreOfForms → (rest : List Word) (j : Job) → job_of (codes "plan" ∷ rest) ≡ Some j
-    → (p : PlanJob) × (j ≡ job.Plan p)
-    × Ask rest (p.sources.env ∷ p.sources.prims ∷ []) (asked_by p.changes p.sources.radius p.search)
+    → (p : PlanJob) × (start : Option Word) × (goal : Option Word) × (j ≡ job.Plan p)
+    × (pose_by start ≡ Some p.sources.start) × (pose_by goal ≡ Some p.sources.goal)
+    × Ask rest (p.sources.env ∷ p.sources.prims ∷ []) (asked_by p.changes start goal p.sources.radius p.search)
     × NoDashes p.outputs
 plan_asked law rest j h =
     let found = parted command.Plan (parts_of command.Plan rest) j h in
@@ -464,17 +504,22 @@ plan_asked law rest j h =
     let prims = named.1 in
     let by = plan_is env prims set j named.3 in
     let p : PlanJob = record {
-      sources = record { env = env; prims = prims; radius = by.radius };
+      sources = record { env = env; prims = prims; radius = by.radius; start = by.start; goal = by.goal };
       changes = set setting.Changes;
       search = by.search;
       outputs = by.outputs;
     } in
-    let ask : Ask rest q.plain (asked_by (set setting.Changes) by.radius by.search) =
+    let asked = asked_by (set setting.Changes) (set setting.Start) (set setting.Goal) by.radius by.search in
+    let ask : Ask rest q.plain asked =
     asks command.Plan rest q by.radius by.search it (radius_says (set setting.Radius) by.radius by.radius_is)
     by.search_is in (
       p,
+      set setting.Start,
+      set setting.Goal,
       sym by.same,
-      subst (λ (plain : List Word). Ask rest plain (asked_by (set setting.Changes) by.radius by.search)) named.2 ask,
+      by.start_is,
+      by.goal_is,
+      subst (λ (plain : List Word). Ask rest plain asked) named.2 ask,
       no_dashes command.Plan rest q (env ∷ prims ∷ []) (set setting.Changes) by.outputs it by.outputs_are,
     )
 
@@ -500,7 +545,9 @@ no_radius (Joined t w ∷ fs) fit =
 
 -- the words after `nav` ask what the job has in it, with no radius, and no output is the standard output
 pub nav_asked : PartsAreOfForms → (rest : List Word) (j : Job) → job_of (codes "nav" ∷ rest) ≡ Some j
-    → (n : NavJob) × (j ≡ job.Nav n) × Ask rest (n.env ∷ []) (asked_by n.changes 0 n.search) × NoDashes n.outputs
+    → (n : NavJob) × (start : Option Word) × (goal : Option Word) × (j ≡ job.Nav n)
+    × (square_by start ≡ Some n.sources.start) × (square_by goal ≡ Some n.sources.goal)
+    × Ask rest (n.sources.env ∷ []) (asked_by n.changes start goal 0 n.search) × NoDashes n.outputs
 nav_asked law rest j h =
     let found = parted command.Nav (parts_of command.Nav rest) j h in
     let q = found.0 in
@@ -508,18 +555,25 @@ nav_asked law rest j h =
     let set : Settings = λ s. given.value_of s q.given in
     let named = one_word q.plain set j found.2 in
     let env = named.0 in
+    let ends = nav_with env set (square_by (set setting.Start)) (square_by (set setting.Goal)) j named.2 in
+    let from : GridSources = record { env = env; start = ends.0; goal = ends.1 } in
     let by =
-    nav_of env (set setting.Changes) (outputs_in (env ∷ []) (set setting.Changes) set) (grid_search_in set) j named.2 in
+    nav_of from (set setting.Changes) (outputs_in (env ∷ []) (set setting.Changes) set) (grid_search_in set) j ends.4 in
     let outputs = by.0 in
     let search = by.1 in
     let n : NavJob =
-    record { env = env; changes = set setting.Changes; search = search; outputs = outputs } in
+    record { sources = from; changes = set setting.Changes; search = search; outputs = outputs } in
+    let asked = asked_by (set setting.Changes) (set setting.Start) (set setting.Goal) 0 search in
     let none : set setting.Radius ≡ None = ap (given.value_of setting.Radius) it.given ∙ no_radius it.forms it.fit in
     let near : RadiusIs (set setting.Radius) 0 = subst (λ (o : Option Word). RadiusIs o 0) (sym none) refl in
-    let ask : Ask rest q.plain (asked_by (set setting.Changes) 0 search) =
+    let ask : Ask rest q.plain asked =
     asks command.Nav rest q 0 search it near (grid_stays (search_in set) search by.3) in (
       n,
+      set setting.Start,
+      set setting.Goal,
       sym by.4,
-      subst (λ (plain : List Word). Ask rest plain (asked_by (set setting.Changes) 0 search)) named.1 ask,
+      ends.2,
+      ends.3,
+      subst (λ (plain : List Word). Ask rest plain asked) named.1 ask,
       no_dashes command.Nav rest q (env ∷ []) (set setting.Changes) outputs it by.2,
     )

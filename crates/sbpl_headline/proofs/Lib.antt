@@ -8,6 +8,7 @@ pub mod Reading
 pub mod Changing
 pub mod Starting
 pub mod Asking
+pub mod Ends
 pub mod Places
 pub mod Moving
 pub mod LatticePaths

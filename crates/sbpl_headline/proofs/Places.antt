@@ -4,7 +4,7 @@ use Rattle.std.proofs.lemmas.Int.{ints}
 use Rattle.std.proofs.lemmas.Nat.{div-mul-add, div-add-mod', mod-mul-add, mul-add-lt}
 use Rattle.sbpl_promises.specs.sbpl_cfg.declared.pose.Place.{Place}
 use Rattle.sbpl_promises.specs.sbpl_cfg.declared.pose.Pose.{Pose}
-use Rattle.sbpl_promises.specs.sbpl_cfg.Environment.{Environment, IsEnvironment, IsPlaceOf, IsPoseOnMap}
+use Rattle.sbpl_promises.specs.sbpl_cfg.Environment.{Environment, IsHeadingCount, IsPlaceOf, IsPoseOnMap}
 use Rattle.sbpl_promises.specs.sbpl_cfg.Place.{heading_of}
 use Rattle.sbpl_promises.specs.sbpl_cost.States.{IsPlace, place_of, state_number, state_count}
 use Rattle.sbpl_promises.specs.LatticeSite.{IsStateOf}
@@ -47,11 +47,11 @@ unfolding heading_of
 heading_below n a some = omega arith
 
 -- the place of a pose on the map is a place of the lattice
-pub pose_place : (e : Environment) → IsEnvironment e → (p : Pose) (q : Place) → IsPoseOnMap e p → IsPlaceOf e p q
+pub pose_place : (e : Environment) → IsHeadingCount e.headings → (p : Pose) (q : Place) → IsPoseOnMap e p → IsPlaceOf e p q
     → IsPlace e q
-pose_place e good p q on_map is =
+pose_place e many p q on_map is =
     let below : heading_of e.headings p.theta < e.headings =
-    heading_below e.headings p.theta (omega (arith, good.headings)) in
+    heading_below e.headings p.theta (omega (arith, many)) in
     record {
       x = omega (arith, ints, is.x, on_map.x);
       y = omega (arith, ints, is.y, on_map.y);
@@ -59,9 +59,9 @@ pose_place e good p q on_map is =
     }
 
 -- where a state is that of a pose on the map, its place is the pose's
-pub place_of_pose : (e : Environment) → IsEnvironment e → (p : Pose) (s : ℕ) → IsPoseOnMap e p → IsStateOf e p s
+pub place_of_pose : (e : Environment) → IsHeadingCount e.headings → (p : Pose) (s : ℕ) → IsPoseOnMap e p → IsStateOf e p s
     → IsPlaceOf e p (place_of e s)
-place_of_pose e good p s on_map is =
-    let at = pose_place e good p is.place on_map is.of_pose in
+place_of_pose e many p s on_map is =
+    let at = pose_place e many p is.place on_map is.of_pose in
     let same : place_of e s ≡ is.place = ap (place_of e) is.number ∙ place_of_number e is.place at in
     subst (λ (q : Place). IsPlaceOf e p q) (sym same) is.of_pose

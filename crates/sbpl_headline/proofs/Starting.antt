@@ -7,7 +7,7 @@ use Rattle.std.specs.List.{AllByRecursion, cons_option, filter_map, flat_map, la
 use Rattle.std.proofs.lemmas.Grind.{flat_map-append}
 use Rattle.std.proofs.lemmas.Option.{none-some, same_Some}
 use Rattle.sbpl_promises.specs.sbpl_cfg.declared.pose.Place.{Place}
-use Rattle.sbpl_promises.specs.sbpl_cfg.Environment.{IsEnvironment, IsPlaceOf}
+use Rattle.sbpl_promises.specs.sbpl_cfg.Environment.{IsHeadingCount, IsPlaceOf, IsPoseOnMap}
 use Rattle.sbpl_promises.specs.sbpl_cost.States.{state_number}
 use Rattle.sbpl_promises.specs.sbpl_cost.States as states
 use Rattle.sbpl_promises.specs.sbpl_cost.World.{World}
@@ -95,13 +95,14 @@ last_on_map m n o (Some p ∷ moves) (suc k) on h = last_on_map m n (Some p) mov
 -- ---- where plans start
 
 -- where a last place is given, a plan starts there, and otherwise where the file says
-starts_by : (w : World) (o : Option Place) (s : ℕ) → IsEnvironment w.env → w.map.width ≡ w.env.width
+starts_by : (w : World) (o : Option Place) (s : ℕ) → IsHeadingCount w.env.headings → IsPoseOnMap w.env w.env.start
+    → w.map.width ≡ w.env.width
     → IsStateOf w.env w.env.start s → IsPlaceOnMap w.map w.env.headings o
     → MatchOption o
     (IsPlaceOf w.env w.env.start (states.place_of w.env (unwrap_or (option_map (state_number w.env) o) s)))
     (λ p. states.place_of w.env (unwrap_or (option_map (state_number w.env) o) s) ≡ p)
-starts_by w None s good wide start on = place_of_pose w.env good w.env.start s good.start_on_map start
-starts_by w (Some p) s good wide start on =
+starts_by w None s many there wide start on = place_of_pose w.env many w.env.start s there start
+starts_by w (Some p) s many there wide start on =
     place_of_state w.env p (subst (λ width. p.x < width) wide on.0.x) on.1
 
 -- the number of headings that a change file is read for is that of the lattice
@@ -130,10 +131,10 @@ start_by_moves moving w c told s k has =
 
 -- Where a plan starts: at the last place that the lines of the batches before it give, or where the file says.
 pub starts_say : (held : Told) (changes : Option (List ℕ)) (moving : Bool) (w : World) (c : Updates)
-    (t : AreUpdatesTold held changes (scope_of moving w) c) (m : CellMap) (s k : ℕ) → IsEnvironment w.env
-    → w.map.width ≡ w.env.width → IsStateOf w.env w.env.start s
+    (t : AreUpdatesTold held changes (scope_of moving w) c) (m : CellMap) (s k : ℕ) → IsHeadingCount w.env.headings
+    → IsPoseOnMap w.env w.env.start → w.map.width ≡ w.env.width → IsStateOf w.env w.env.start s
     → Starts w.env (map_with m t.told k) (states.place_of w.env (start_after lattice_reporting w s c.moves k))
-starts_say held changes moving w c t m s k good wide start =
+starts_say held changes moving w c t m s k many on_map wide start =
     let there = last_given t.told k None in
     let At : Option Place → ℕ → Type 0 = λ o n. MatchOption o (IsPlaceOf w.env w.env.start (states.place_of w.env n))
     (λ p. states.place_of w.env n ≡ p) in
@@ -141,7 +142,7 @@ starts_say held changes moving w c t m s k good wide start =
       | inl none ↦
           let nowhere = there ∙ ap (λ places. last_or None places) (no_places t.told k none.1) in
           subst₂ At (sym nowhere) (ap (λ moves. start_after lattice_reporting w s moves k) (sym none.0))
-          (starts_by w None s good wide start tt)
+          (starts_by w None s many on_map wide start tt)
       | inr has ↦ subst₂ At (sym there) (start_by_moves moving w c t.told s k has)
-          (starts_by w (last_move t.told k) s good wide start (last_move_on_map moving w c t.told k has))
+          (starts_by w (last_move t.told k) s many on_map wide start (last_move_on_map moving w c t.told k has))
     ]

@@ -1,5 +1,5 @@
 -- What the words of files and the lines of changes say, in plain words.
-use Rattle.std.specs.Prelude.{◌≡◌, ◌⊎◌, ℕ, ℤ, pos, nat_lt, Bool, List, [], ◌∷◌, ◌++◌, length, map, codes}
+use Rattle.std.specs.Prelude.{◌≡◌, ◌⊎◌, ◌==◌, ℕ, ℤ, pos, nat_lt, Bool, Option, MatchOption, List, [], ◌∷◌, ◌++◌, length, map, codes}
 use Rattle.std.specs.Int.{int_rem_euclid}
 use Rattle.std.specs.Int.RustNames.{unsigned_abs}
 use Rattle.std.specs.List.{AllZip, filter, flat_map, slice_split}
@@ -7,6 +7,7 @@ use Rattle.std.specs.Str.Lines.{lines}
 use Rattle.sbpl_promises.specs.sbpl_fixed.Tokens.{is_blank}
 use Rattle.sbpl_promises.specs.sbpl_cfg.Environment.{Environment}
 use Rattle.sbpl_promises.specs.sbpl_cfg.declared.pose.Place.{Place}
+use Rattle.sbpl_promises.specs.sbpl_cfg.declared.pose.Pose.{Pose}
 use Rattle.sbpl_promises.specs.sbpl_mprim.declared.prim.Primitive.{Primitive}
 use Rattle.sbpl_promises.specs.sbpl_map.Fields.{is_parting}
 use Rattle.sbpl_headline.specs.Numbers.{IsNanos, IsNumber}
@@ -32,7 +33,14 @@ between parts bytes = filter (λ w. nat_lt 0 (length w)) (slice_split parts byte
 abbrev pub Says : List Said → List ℕ → Type 0
 Says said text = AllZip Means said (between is_blank text)
 
+-- a value is that of the file; or, where a word is given in its place, the word says it between commas
+abbrev pub IsGiven : {P : Type 0} → (P → List Said) → Option (List ℕ) → (file value : P) → Type 0
+IsGiven said given file value = MatchOption given (value ≡ file) (λ w. AllZip Means (said value) (slice_split (λ b. b == 44) w))
+
 -- ---- a lattice: its environment file, in which the number of headings can be left out where it is 16, and its primitive file
+
+abbrev pub said_pose : Pose → List Said
+said_pose p = nano p.x ∷ nano p.y ∷ nano p.theta ∷ []
 
 abbrev pub environment_words : (headings : List Said) → Environment → List ℕ → List Said
 environment_words headings e cells =
@@ -43,9 +51,9 @@ environment_words headings e cells =
     ∷ word (codes "cellsize(meters):") ∷ nano e.cell
     ∷ word (codes "nominalvel(mpersecs):") ∷ nano e.speed
     ∷ word (codes "timetoturn45degsinplace(secs):") ∷ nano e.turn45
-    ∷ word (codes "start(meters,rads):") ∷ nano e.start.x ∷ nano e.start.y ∷ nano e.start.theta
-    ∷ word (codes "end(meters,rads):") ∷ nano e.end.x ∷ nano e.end.y ∷ nano e.end.theta
-    ∷ word (codes "environment:") ∷ map (λ c. number (pos c)) cells)
+    ∷ word (codes "start(meters,rads):") ∷ (said_pose e.start
+    ++ word (codes "end(meters,rads):") ∷ (said_pose e.end
+    ++ word (codes "environment:") ∷ map (λ c. number (pos c)) cells)))
 
 abbrev pub IsEnvironmentText : Environment → List ℕ → List ℕ → Type 0
 IsEnvironmentText e cells text =
@@ -58,7 +66,7 @@ primitive_words headings p =
     ∷ word (codes "endpose_c:") ∷ number p.dx ∷ number p.dy ∷ modulo headings p.to
     ∷ word (codes "additionalactioncostmult:") ∷ number (pos p.mult)
     ∷ word (codes "intermediateposes:") ∷ number (pos (length p.poses))
-    ∷ flat_map (λ q. nano q.x ∷ nano q.y ∷ nano q.theta ∷ []) p.poses
+    ∷ flat_map said_pose p.poses
 
 abbrev pub IsPrimitiveText : Environment → List Primitive → List ℕ → Type 0
 IsPrimitiveText e prims text = Says

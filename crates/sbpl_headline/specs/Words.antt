@@ -31,10 +31,12 @@ IsPart part =
 abbrev pub value_of : List ℕ → List Part → Option (List ℕ)
 value_of name parts = option_map (λ g. g.1) (find (λ g. bytes_eq g.0 name) (flat_map (λ p. p.given) parts))
 
--- what is asked: the name of the change file, the robot's radius in nanometres, the bound in thousandths, and how many states a plan
--- may expand
+-- what is asked: the name of the change file, the words for the start and the goal, the robot's radius in nanometres, the bound in
+-- thousandths, and how many states a plan may expand
 pub record Asked : Type 0 where
   pub changes : Option (List ℕ)
+  pub start : Option (List ℕ)
+  pub goal : Option (List ℕ)
   pub radius : ℕ
   pub bound : ℕ
   pub budget : ℕ
@@ -46,6 +48,8 @@ pub record Ask (words plain : List (List ℕ)) (a : Asked) : Type 0 where
   pub spelled : words ≡ flat_map (λ p. p.words) parts
   pub plain_words : plain ≡ flat_map (λ p. p.plain) parts
   pub changes : a.changes ≡ value_of (codes "--changes") parts
+  pub start : a.start ≡ value_of (codes "--start") parts
+  pub goal : a.goal ≡ value_of (codes "--goal") parts
   pub radius : MatchOption (value_of (codes "--radius") parts) (a.radius ≡ 0) (λ v. IsNanos v (pos a.radius))
   pub bound : MatchOption (value_of (codes "--bound") parts) (a.bound ≡ 1000) (λ v. IsNanos v (pos (a.bound * 10 ^ 6)))
   pub budget : MatchOption (value_of (codes "--budget") parts) (a.budget ≡ 2 ^ 30) (λ v. IsNumber v (pos a.budget))

@@ -124,6 +124,8 @@ long_at command.Plan setting.Labels = refl
 long_at command.Plan setting.LabelsAs = refl
 long_at command.Plan setting.Trace = refl
 long_at command.Plan setting.Incumbent = refl
+long_at command.Plan setting.Start = refl
+long_at command.Plan setting.Goal = refl
 long_at command.Check setting.Changes = refl
 long_at command.Check setting.Radius = refl
 long_at command.Check setting.Planner = refl
@@ -136,6 +138,8 @@ long_at command.Check setting.Labels = refl
 long_at command.Check setting.LabelsAs = refl
 long_at command.Check setting.Trace = refl
 long_at command.Check setting.Incumbent = refl
+long_at command.Check setting.Start = refl
+long_at command.Check setting.Goal = refl
 long_at command.Sweep setting.Changes = refl
 long_at command.Sweep setting.Radius = refl
 long_at command.Sweep setting.Planner = refl
@@ -148,6 +152,8 @@ long_at command.Sweep setting.Labels = refl
 long_at command.Sweep setting.LabelsAs = refl
 long_at command.Sweep setting.Trace = refl
 long_at command.Sweep setting.Incumbent = refl
+long_at command.Sweep setting.Start = refl
+long_at command.Sweep setting.Goal = refl
 long_at command.Demo setting.Changes = refl
 long_at command.Demo setting.Radius = refl
 long_at command.Demo setting.Planner = refl
@@ -160,6 +166,8 @@ long_at command.Demo setting.Labels = refl
 long_at command.Demo setting.LabelsAs = refl
 long_at command.Demo setting.Trace = refl
 long_at command.Demo setting.Incumbent = refl
+long_at command.Demo setting.Start = refl
+long_at command.Demo setting.Goal = refl
 long_at command.Nav setting.Changes = refl
 long_at command.Nav setting.Radius = refl
 long_at command.Nav setting.Planner = refl
@@ -172,6 +180,8 @@ long_at command.Nav setting.Labels = refl
 long_at command.Nav setting.LabelsAs = refl
 long_at command.Nav setting.Trace = refl
 long_at command.Nav setting.Incumbent = refl
+long_at command.Nav setting.Start = refl
+long_at command.Nav setting.Goal = refl
 long_at command.NavCheck setting.Changes = refl
 long_at command.NavCheck setting.Radius = refl
 long_at command.NavCheck setting.Planner = refl
@@ -184,6 +194,8 @@ long_at command.NavCheck setting.Labels = refl
 long_at command.NavCheck setting.LabelsAs = refl
 long_at command.NavCheck setting.Trace = refl
 long_at command.NavCheck setting.Incumbent = refl
+long_at command.NavCheck setting.Start = refl
+long_at command.NavCheck setting.Goal = refl
 
 pub option_at : (c : Command) (s : Setting)
     → arg_by_id (rules c) (id_of s) ≡ (if takes c s then Some (option_built s) else None)
@@ -199,6 +211,8 @@ option_at command.Plan setting.Labels = refl
 option_at command.Plan setting.LabelsAs = refl
 option_at command.Plan setting.Trace = refl
 option_at command.Plan setting.Incumbent = refl
+option_at command.Plan setting.Start = refl
+option_at command.Plan setting.Goal = refl
 option_at command.Check setting.Changes = refl
 option_at command.Check setting.Radius = refl
 option_at command.Check setting.Planner = refl
@@ -211,6 +225,8 @@ option_at command.Check setting.Labels = refl
 option_at command.Check setting.LabelsAs = refl
 option_at command.Check setting.Trace = refl
 option_at command.Check setting.Incumbent = refl
+option_at command.Check setting.Start = refl
+option_at command.Check setting.Goal = refl
 option_at command.Sweep setting.Changes = refl
 option_at command.Sweep setting.Radius = refl
 option_at command.Sweep setting.Planner = refl
@@ -223,6 +239,8 @@ option_at command.Sweep setting.Labels = refl
 option_at command.Sweep setting.LabelsAs = refl
 option_at command.Sweep setting.Trace = refl
 option_at command.Sweep setting.Incumbent = refl
+option_at command.Sweep setting.Start = refl
+option_at command.Sweep setting.Goal = refl
 option_at command.Demo setting.Changes = refl
 option_at command.Demo setting.Radius = refl
 option_at command.Demo setting.Planner = refl
@@ -235,6 +253,8 @@ option_at command.Demo setting.Labels = refl
 option_at command.Demo setting.LabelsAs = refl
 option_at command.Demo setting.Trace = refl
 option_at command.Demo setting.Incumbent = refl
+option_at command.Demo setting.Start = refl
+option_at command.Demo setting.Goal = refl
 option_at command.Nav setting.Changes = refl
 option_at command.Nav setting.Radius = refl
 option_at command.Nav setting.Planner = refl
@@ -247,6 +267,8 @@ option_at command.Nav setting.Labels = refl
 option_at command.Nav setting.LabelsAs = refl
 option_at command.Nav setting.Trace = refl
 option_at command.Nav setting.Incumbent = refl
+option_at command.Nav setting.Start = refl
+option_at command.Nav setting.Goal = refl
 option_at command.NavCheck setting.Changes = refl
 option_at command.NavCheck setting.Radius = refl
 option_at command.NavCheck setting.Planner = refl
@@ -259,6 +281,8 @@ option_at command.NavCheck setting.Labels = refl
 option_at command.NavCheck setting.LabelsAs = refl
 option_at command.NavCheck setting.Trace = refl
 option_at command.NavCheck setting.Incumbent = refl
+option_at command.NavCheck setting.Start = refl
+option_at command.NavCheck setting.Goal = refl
 
 pub some_is : {X : Type 0} {x y : X} → Some x ≡ Some y → x ≡ y
 some_is {x = x} e = ap (λ o. Rattle.std.specs.Option.unwrap_or o x) e
@@ -403,7 +427,13 @@ is_name x t named =
                           | inl h ↦ told x setting.Trace t h
                           | inr e10 ↦ elim (pick (bytes_eq x (name_of setting.Incumbent)) setting.Incumbent t _ e10) [
                             | inl h ↦ told x setting.Incumbent t h
-                            | inr e11 ↦ absurd (not_none e11)
+                            | inr e11 ↦ elim (pick (bytes_eq x (name_of setting.Start)) setting.Start t _ e11) [
+                              | inl h ↦ told x setting.Start t h
+                              | inr e12 ↦ elim (pick (bytes_eq x (name_of setting.Goal)) setting.Goal t _ e12) [
+                                | inl h ↦ told x setting.Goal t h
+                                | inr e13 ↦ absurd (not_none e13)
+                              ]
+                            ]
                           ]
                         ]
                       ]
@@ -433,6 +463,8 @@ long_name setting.Labels = refl
 long_name setting.LabelsAs = refl
 long_name setting.Trace = refl
 long_name setting.Incumbent = refl
+long_name setting.Start = refl
+long_name setting.Goal = refl
 
 not_dashes : (s : Setting) → bytes_eq (name_of s) dashes ≡ false
 not_dashes setting.Changes = refl
@@ -447,6 +479,8 @@ not_dashes setting.Labels = refl
 not_dashes setting.LabelsAs = refl
 not_dashes setting.Trace = refl
 not_dashes setting.Incumbent = refl
+not_dashes setting.Start = refl
+not_dashes setting.Goal = refl
 
 pub taken : (c : Command) (s : Setting) (o : Option Setting)
     → option_and_then (λ t. if takes c t then Some t else None) o ≡ Some s → (o ≡ Some s) × (takes c s ≡ true)

@@ -65,6 +65,8 @@ named setting.Labels = refl
 named setting.LabelsAs = refl
 named setting.Trace = refl
 named setting.Incumbent = refl
+named setting.Start = refl
+named setting.Goal = refl
 
 same_name : (s t : Setting) → name_of s ≡ name_of t → s ≡ t
 same_name s t e = same_Some s t (sym (named s) ∙ ap setting_named e ∙ named t)
@@ -116,6 +118,8 @@ split_before setting.Labels value = refl
 split_before setting.LabelsAs value = refl
 split_before setting.Trace value = refl
 split_before setting.Incumbent value = refl
+split_before setting.Start value = refl
+split_before setting.Goal value = refl
 
 split_after : (s : Setting) (value : Word) → after_first is_equals (name_of s ++ (61 ∷ value)) ≡ value
 split_after setting.Changes value = refl
@@ -130,6 +134,8 @@ split_after setting.Labels value = refl
 split_after setting.LabelsAs value = refl
 split_after setting.Trace value = refl
 split_after setting.Incumbent value = refl
+split_after setting.Start value = refl
+split_after setting.Goal value = refl
 
 name_is_whole : (s : Setting) → after_first is_equals (name_of s) ≡ []
 name_is_whole setting.Changes = refl
@@ -144,6 +150,8 @@ name_is_whole setting.Labels = refl
 name_is_whole setting.LabelsAs = refl
 name_is_whole setting.Trace = refl
 name_is_whole setting.Incumbent = refl
+name_is_whole setting.Start = refl
+name_is_whole setting.Goal = refl
 
 plain_is_long : (x : Word) → is_plain_word x ≡ true → 0 < length x
 plain_is_long [] plain = absurd (true≢false (sym plain))

@@ -1,13 +1,17 @@
 -- The job that a list of words names.
-use Rattle.std.specs.Prelude.{◌≡◌, ◌^◌, ◌<◌, ◌≤◌, true, false, not, ◌/◌, ◌%◌, ◌&&◌, ◌||◌, Bool, ℕ, ℤ, pos, negsuc, nat_eq, nat_le, List, [], ◌∷◌, length, map, String, string_bytes, Option, Some, None, option_map, option_and_then, Result, Ok, Err, codes, if◌then◌else◌}
-use Rattle.std.specs.List.{list_any}
+use Rattle.std.specs.Prelude.{◌≡◌, ◌^◌, ◌<◌, ◌≤◌, true, false, not, ◌/◌, ◌%◌, ◌&&◌, ◌||◌, Bool, ℕ, ℤ, pos, negsuc, nat_eq, nat_le, int_le, ◌==◌, IfSome, List, [], ◌∷◌, length, map, String, string_bytes, Option, Some, None, option_map, option_and_then, Result, Ok, Err, codes, if◌then◌else◌}
+use Rattle.std.specs.List.{list_any, slice_split}
 use Rattle.std.specs.Option.{option_map_or}
 use Rattle.std.specs.Result.{result_ok}
 use Rattle.std.specs.Str.{bytes_eq}
 use Rattle.sbpl_fixed.specs.declared.fault.NumFault.{NumFault}
 use Rattle.sbpl_fixed.specs.Numbers.{nano_of, whole_of}
 use Rattle.sbpl_fixed.specs.Unsigned.{digits_of}
+use Rattle.sbpl_cfg.specs.Environment.{IsPoseInRange}
+use Rattle.sbpl_cfg.specs.declared.pose.Pose.{Pose}
 use Rattle.sbpl_job.specs.declared.job.DemoJob.{DemoJob}
+use Rattle.sbpl_job.specs.declared.job.GridSources.{GridSources}
+use Rattle.sbpl_job.specs.declared.job.Square.{Square}
 use Rattle.sbpl_job.specs.declared.job.Job.{Job}
 use Rattle.sbpl_job.specs.declared.job.Job.TheVariants as job
 use Rattle.sbpl_job.specs.declared.job.LabelForm.{LabelForm}
@@ -48,12 +52,57 @@ abbrev pub radius_by : Option (List ℕ) → Option ℕ
 radius_by None = Some 0
 radius_by (Some metres) = radius_in (nano_of metres)
 
--- what the lattice of a command is made of, where there is a radius
-abbrev pub sources_by : (env prims : List ℕ) → Option ℕ → Option Sources
-sources_by env prims radius = option_map (λ r. record { env = env; prims = prims; radius = r }) radius
+-- the byte ','
+abbrev pub is_comma : ℕ → Bool
+is_comma b = b == 44
+
+-- nanometres or nanoradians, in the range of a pose of the environment file
+abbrev pub coordinate_in : Result ℤ NumFault → Option ℤ
+coordinate_in (Ok z) = if int_le (negsuc 999999999999999999) z && int_le z (pos 1000000000000000000) then Some z else None
+coordinate_in (Err fault) = None
+
+-- the pose of three decimals, two of metres and one of radians
+abbrev pub pose_in : List (List ℕ) → Option Pose
+pose_in (x ∷ (y ∷ (theta ∷ []))) =
+    option_and_then (λ a. option_and_then (λ b. option_map (λ c. record { x = a; y = b; theta = c })
+    (coordinate_in (nano_of theta))) (coordinate_in (nano_of y))) (coordinate_in (nano_of x))
+pose_in _ = None
+
+-- the pose that is set by a word X,Y,T in place of the file's
+abbrev pub pose_by : Option (List ℕ) → Option (Option Pose)
+pose_by None = Some None
+pose_by (Some word) = option_map Some (pose_in (slice_split is_comma word))
+
+-- a column or a row, in the range of the environment file
+abbrev pub index_in : Result ℤ NumFault → Option ℕ
+index_in (Ok (pos n)) = if nat_le n 8388607 then Some n else None
+index_in (Ok (negsuc n)) = None
+index_in (Err fault) = None
+
+-- the square of two whole numbers
+abbrev pub square_in : List (List ℕ) → Option Square
+square_in (x ∷ (y ∷ [])) = option_and_then (λ a. option_map (λ b. record { x = a; y = b }) (index_in (whole_of y))) (index_in (whole_of x))
+square_in _ = None
+
+-- the square that is set by a word X,Y in place of the file's
+abbrev pub square_by : Option (List ℕ) → Option (Option Square)
+square_by None = Some None
+square_by (Some word) = option_map Some (square_in (slice_split is_comma word))
+
+-- what the lattice of a command is made of, where there are a radius, a start and a goal
+abbrev pub sources_by : (env prims : List ℕ) → Option ℕ → (start goal : Option (Option Pose)) → Option Sources
+sources_by env prims radius start goal =
+    option_and_then (λ r. option_and_then (λ s. option_map (λ g. record { env = env; prims = prims; radius = r; start = s; goal = g }) goal) start) radius
 
 abbrev pub sources_in : (env prims : List ℕ) → Settings → Option Sources
-sources_in env prims set = sources_by env prims (radius_by (set setting.Radius))
+sources_in env prims set = sources_by env prims (radius_by (set setting.Radius)) (pose_by (set setting.Start)) (pose_by (set setting.Goal))
+
+-- what the grid of a command is made of
+abbrev pub grid_sources_by : (env : List ℕ) → (start goal : Option (Option Square)) → Option GridSources
+grid_sources_by env start goal = option_and_then (λ s. option_map (λ g. record { env = env; start = s; goal = g }) goal) start
+
+abbrev pub grid_sources_in : (env : List ℕ) → Settings → Option GridSources
+grid_sources_in env set = grid_sources_by env (square_by (set setting.Start)) (square_by (set setting.Goal))
 
 -- the thousandths that a number of billionths is exactly, in their range
 abbrev pub milli_from : (low high nano : ℕ) → Option ℕ
@@ -219,21 +268,22 @@ demo_in seed width height =
     (seed_in seed)
 
 -- the job `nav` of these parts
-abbrev pub nav_by : (env : List ℕ) (changes : Option (List ℕ)) → Outputs → SearchJob → Job
-nav_by env changes outputs search = job.Nav (record { env = env; changes = changes; search = search; outputs = outputs })
+abbrev pub nav_by : GridSources → Option (List ℕ) → Outputs → SearchJob → Job
+nav_by from changes outputs search = job.Nav (record { sources = from; changes = changes; search = search; outputs = outputs })
 
--- the job `nav` on this environment, with these changes
-abbrev pub nav_on : (env : List ℕ) (changes : Option (List ℕ)) → Settings → Option Job
-nav_on env changes set =
-    option_and_then (λ outputs. option_map (nav_by env changes outputs) (grid_search_in set))
-    (outputs_in (env ∷ []) changes set)
+-- the job `nav` on these sources, with these changes
+abbrev pub nav_on : GridSources → Option (List ℕ) → Settings → Option Job
+nav_on from changes set =
+    option_and_then (λ outputs. option_map (nav_by from changes outputs) (grid_search_in set))
+    (outputs_in (from.env ∷ []) changes set)
 
 abbrev pub nav_in : (env : List ℕ) → Settings → Option Job
-nav_in env set = nav_on env (set setting.Changes) set
+nav_in env set = option_and_then (λ from. nav_on from (set setting.Changes) set) (grid_sources_in env set)
 
 -- the job `navcheck`
 abbrev pub nav_check_in : (env labels : List ℕ) → Settings → Option Job
-nav_check_in env labels set = Some (job.NavCheck (record { env = env; changes = set setting.Changes; labels = labels }))
+nav_check_in env labels set =
+    option_map (λ from. job.NavCheck (record { sources = from; changes = set setting.Changes; labels = labels })) (grid_sources_in env set)
 
 -- the job of a command with these plain words and settings
 abbrev pub job_with : Command → List (List ℕ) → Settings → Option Job
@@ -285,11 +335,17 @@ pub record IsDemoJob (d : DemoJob) : Type 0 where
   pub height_low : 8 ≤ d.height
   pub height_high : d.height ≤ 512
 
+-- the radius, the start and the goal lie in their ranges
+pub record AreSources (s : Sources) : Type 0 where
+  pub radius : s.radius ≤ 10 ^ 12
+  pub start : IfSome s.start IsPoseInRange
+  pub goal : IfSome s.goal IsPoseInRange
+
 -- the numbers of a job lie in their ranges, and on a grid the robot stays
 abbrev pub IsJob : Job → Type 0
-IsJob (job.Plan plan) = (plan.sources.radius ≤ 10 ^ 12) × IsSearchJob plan.search
-IsJob (job.Check check) = check.sources.radius ≤ 10 ^ 12
-IsJob (job.Sweep sources) = sources.radius ≤ 10 ^ 12
+IsJob (job.Plan plan) = AreSources plan.sources × IsSearchJob plan.search
+IsJob (job.Check check) = AreSources check.sources
+IsJob (job.Sweep sources) = AreSources sources
 IsJob (job.Demo demo) = IsDemoJob demo
 IsJob (job.Nav nav) = IsSearchJob nav.search × (may_move nav.search.planner ≡ false)
 IsJob (job.NavCheck check) = Unit {0}

@@ -41,6 +41,10 @@ option_rule id = record (new_rule id) { long = Some id; value_names = 1 }
 abbrev pub rule_for : Argument → Rule
 rule_for a = option_map_or (λ _. option_rule a.id.now) a.value (plain_rule a.id.now)
 
+-- the options that place the start and the goal
+abbrev pub end_options : List Rule → List Rule
+end_options more = option_rule (codes "start") ∷ (option_rule (codes "goal") ∷ more)
+
 -- the options of a plan on any graph: how to search, when to end, and what to write
 abbrev pub plan_options : List Rule
 plan_options =
@@ -53,13 +57,13 @@ plan_options =
 abbrev pub arguments : Command → List Rule
 arguments command.Plan =
     plain_rule (codes "ENV") ∷ (plain_rule (codes "MPRIM")
-    ∷ (option_rule (codes "changes") ∷ (option_rule (codes "radius") ∷ plan_options)))
-arguments command.Check = plain_rule (codes "ENV") ∷ (plain_rule (codes "MPRIM") ∷ (plain_rule (codes "LABELS") ∷ (option_rule (codes "changes") ∷ (option_rule (codes "radius")
-    ∷ (option_rule (codes "planner") ∷ [])))))
+    ∷ (option_rule (codes "changes") ∷ end_options (option_rule (codes "radius") ∷ plan_options)))
+arguments command.Check = plain_rule (codes "ENV") ∷ (plain_rule (codes "MPRIM") ∷ (plain_rule (codes "LABELS") ∷ (option_rule (codes "changes")
+    ∷ end_options (option_rule (codes "radius") ∷ (option_rule (codes "planner") ∷ [])))))
 arguments command.Sweep = plain_rule (codes "ENV") ∷ (plain_rule (codes "MPRIM") ∷ (option_rule (codes "radius") ∷ []))
 arguments command.Demo = plain_rule (codes "SEED") ∷ (plain_rule (codes "W") ∷ (plain_rule (codes "H") ∷ []))
-arguments command.Nav = plain_rule (codes "ENV") ∷ (option_rule (codes "changes") ∷ plan_options)
-arguments command.NavCheck = plain_rule (codes "ENV") ∷ (plain_rule (codes "LABELS") ∷ (option_rule (codes "changes") ∷ []))
+arguments command.Nav = plain_rule (codes "ENV") ∷ (option_rule (codes "changes") ∷ end_options plan_options)
+arguments command.NavCheck = plain_rule (codes "ENV") ∷ (plain_rule (codes "LABELS") ∷ (option_rule (codes "changes") ∷ end_options []))
 
 abbrev pub word_of : Command → Text
 word_of command.Plan = codes "plan"

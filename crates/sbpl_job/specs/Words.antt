@@ -59,6 +59,8 @@ id_of setting.Labels = codes "labels"
 id_of setting.LabelsAs = codes "labels-as"
 id_of setting.Trace = codes "trace"
 id_of setting.Incumbent = codes "incumbent"
+id_of setting.Start = codes "start"
+id_of setting.Goal = codes "goal"
 
 -- two settings are the same where their names are
 abbrev pub is_setting : Setting → Setting → Bool
@@ -78,16 +80,22 @@ setting_named word =
     else (if bytes_eq word (codes "--labels") then Some setting.Labels
     else (if bytes_eq word (codes "--labels-as") then Some setting.LabelsAs
     else (if bytes_eq word (codes "--trace") then Some setting.Trace
-    else (if bytes_eq word (codes "--incumbent") then Some setting.Incumbent else None)))))))))))
+    else (if bytes_eq word (codes "--incumbent") then Some setting.Incumbent
+    else (if bytes_eq word (codes "--start") then Some setting.Start
+    else (if bytes_eq word (codes "--goal") then Some setting.Goal else None)))))))))))))
+
+-- a setting is where to start, or where to go
+abbrev pub is_end : Setting → Bool
+is_end s = is_setting s setting.Start || is_setting s setting.Goal
 
 -- a command takes a setting
 abbrev pub takes : Command → Setting → Bool
 takes command.Plan s = true
-takes command.Check s = is_setting s setting.Changes || is_setting s setting.Radius || is_setting s setting.Planner
+takes command.Check s = is_end s || is_setting s setting.Changes || is_setting s setting.Radius || is_setting s setting.Planner
 takes command.Sweep s = is_setting s setting.Radius
 takes command.Demo s = false
 takes command.Nav s = not (is_setting s setting.Radius)
-takes command.NavCheck s = is_setting s setting.Changes
+takes command.NavCheck s = is_end s || is_setting s setting.Changes
 
 -- the setting of this name, where the command takes it
 abbrev pub setting_of : Command → List ℕ → Option Setting

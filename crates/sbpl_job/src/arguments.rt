@@ -71,6 +71,34 @@ const CHANGES: Argument = Argument {
     help: "the file of changes, made from plan to plan [default: no change]",
 };
 
+/// Where to start on a lattice.
+const START: Argument = Argument {
+    id: "start",
+    value: Some("X,Y,T"),
+    help: "where to start, in metres and radians [default: the environment file's start]",
+};
+
+/// Where to go on a lattice.
+const GOAL: Argument = Argument {
+    id: "goal",
+    value: Some("X,Y,T"),
+    help: "where to go, in metres and radians [default: the environment file's end]",
+};
+
+/// Where to start on a grid.
+const GRID_START: Argument = Argument {
+    id: "start",
+    value: Some("X,Y"),
+    help: "the cell to start from [default: the environment file's start]",
+};
+
+/// Where to go on a grid.
+const GRID_GOAL: Argument = Argument {
+    id: "goal",
+    value: Some("X,Y"),
+    help: "the cell to go to [default: the environment file's end]",
+};
+
 /// The radius.
 const RADIUS: Argument = Argument {
     id: "radius",
@@ -164,12 +192,12 @@ const INCUMBENT: Argument = Argument {
 
 /// The arguments of `plan`.
 const PLAN: &[Argument] = &[
-    ENV, MPRIM, CHANGES, RADIUS, PLANNER, WORKERS, FIRST, STEP, BOUND, BUDGET, LABELS, LABELS_AS,
-    TRACE, INCUMBENT,
+    ENV, MPRIM, CHANGES, START, GOAL, RADIUS, PLANNER, WORKERS, FIRST, STEP, BOUND, BUDGET, LABELS,
+    LABELS_AS, TRACE, INCUMBENT,
 ];
 
 /// The arguments of `check`.
-const CHECK: &[Argument] = &[ENV, MPRIM, LABELS_FILE, CHANGES, RADIUS, BACK];
+const CHECK: &[Argument] = &[ENV, MPRIM, LABELS_FILE, CHANGES, START, GOAL, RADIUS, BACK];
 
 /// The arguments of `sweep`.
 const SWEEP: &[Argument] = &[ENV, MPRIM, RADIUS];
@@ -181,6 +209,8 @@ const DEMO: &[Argument] = &[SEED, WIDTH, HEIGHT];
 const NAV: &[Argument] = &[
     GRID,
     CHANGES,
+    GRID_START,
+    GRID_GOAL,
     GRID_PLANNER,
     WORKERS,
     FIRST,
@@ -194,7 +224,7 @@ const NAV: &[Argument] = &[
 ];
 
 /// The arguments of `navcheck`.
-const NAV_CHECK: &[Argument] = &[GRID, LABELS_FILE, CHANGES];
+const NAV_CHECK: &[Argument] = &[GRID, LABELS_FILE, CHANGES, GRID_START, GRID_GOAL];
 
 /// The arguments of a command, in order.
 pub(crate) fn arguments_of(command: Command) -> &'static [Argument]

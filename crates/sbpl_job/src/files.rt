@@ -1,27 +1,45 @@
 //! Names of files and outputs, which differ where they have to.
 
-ghost use Rattle.std.specs.Prelude.{◌≡◌, ◌≤◌, ◌^◌, IfOk, Some, option_map};
+ghost use Rattle.std.specs.Prelude.{◌≡◌, IfOk, Some, option_map};
 ghost use Rattle.std.specs.Str.{bytes_eq};
 ghost use Rattle.sbpl_job.specs.declared.words.Setting.TheVariants as Settings;
 ghost use Rattle.sbpl_job.specs.Found.{set_in};
-ghost use Rattle.sbpl_job.specs.Jobs.{differ, form_by, form_named, is_input, output_by, outputs_by, outputs_in, sources_in};
+ghost use Rattle.sbpl_job.specs.Jobs.{AreSources, differ, form_by, form_named, grid_sources_in};
+ghost use Rattle.sbpl_job.specs.Jobs.{is_input, output_by, outputs_by, outputs_in, sources_in};
 ghost use Rattle.sbpl_job.specs.Words.{Names, text_of, texts};
 
-use crate::job::{JobFault, LabelForm, Outputs, Sources};
+use crate::ends::{pose_by, square_by};
+use crate::job::{GridSources, JobFault, LabelForm, Outputs, Sources};
 use crate::name::Name;
 use crate::values::radius_of;
 use crate::words::stands_in;
 use clap::ArgMatches;
+use sbpl_cfg::Pose;
 use std::alloc::{AllocError, Global};
 
-/// These names and this radius.
-fn make_sources(alloc: Global, env: &str, prims: &str, radius: u64) -> Result<Sources, AllocError>
-    ensures sources { IfOk result (λ s. s ≡ record { env = env.now; prims = prims.now; radius = radius }) }
+/// These names, this radius, and this start and this goal in place of the file's.
+fn make_sources(
+    alloc: Global,
+    env: &str,
+    prims: &str,
+    radius: u64,
+    start: Option<Pose>,
+    goal: Option<Pose>,
+) -> Result<Sources, AllocError>
+    ensures sources { IfOk result (λ s. s ≡ record {
+      env = env.now;
+      prims = prims.now;
+      radius = radius;
+      start = start;
+      goal = goal;
+    }) }
 {
     Ok(Sources {
         env: Name::of(alloc, env)?,
         prims: Name::of(alloc, prims)?,
         radius,
+        start,
+        goal,
     })
 }
 
@@ -33,12 +51,29 @@ pub(crate) fn sources_of(
     matches: &ArgMatches,
 ) -> Result<Sources, JobFault>
     ensures sources { Names (sources_in env.now prims.now (set_in matches.now)) result }
-    ensures range { IfOk result (λ s. s.radius ≤ 10 ^ 12) }
+    ensures range { IfOk result AreSources }
 {
-    match radius_of(matches) {
-        Ok(radius) => Ok(make_sources(alloc, env, prims, radius)?),
-        Err(fault) => Err(fault),
-    }
+    let radius = radius_of(matches)?;
+    let start = pose_by(alloc, matches.get_str("start"))?;
+    let goal = pose_by(alloc, matches.get_str("goal"))?;
+    Ok(make_sources(alloc, env, prims, radius, start, goal)?)
+}
+
+/// What the grid of a command is made of.
+pub(crate) fn grid_sources_of(
+    alloc: Global,
+    env: &str,
+    matches: &ArgMatches,
+) -> Result<GridSources, JobFault>
+    ensures sources { Names (grid_sources_in env.now (set_in matches.now)) result }
+{
+    let start = square_by(alloc, matches.get_str("start"))?;
+    let goal = square_by(alloc, matches.get_str("goal"))?;
+    Ok(GridSources {
+        env: Name::of(alloc, env)?,
+        start,
+        goal,
+    })
 }
 
 /// The name that this word is, if there is one.

@@ -5,8 +5,27 @@ ghost use Rattle.sbpl_job.specs.declared.job.JobFault.TheVariants.{NoMemory};
 ghost use Rattle.sbpl_job.specs.Jobs.{may_move, moves_in};
 
 use crate::name::Name;
+use sbpl_cfg::Pose;
 use std::alloc::{AllocError, AllocFailed};
 use thiserror::Error;
+
+/// A cell of a grid: its column and its row, each 0 to 8388607.
+#[derive(Clone, Copy, Debug, PartialEq, Eq)]
+pub struct Square {
+    pub x: u32,
+    pub y: u32,
+}
+
+/// What a grid is made of.
+#[derive(Debug, Drop)]
+pub struct GridSources {
+    /// The environment file.
+    pub env: Name,
+    /// The cell to start from, where it is not the file's.
+    pub start: Option<Square>,
+    /// The cell to go to, where it is not the file's.
+    pub goal: Option<Square>,
+}
 
 /// What a lattice is made of.
 #[derive(Debug, Drop)]
@@ -17,6 +36,10 @@ pub struct Sources {
     pub prims: Name,
     /// The radius of the robot in nanometres, 0 to 10^12.
     pub radius: u64,
+    /// Where to start, where it is not the file's start.
+    pub start: Option<Pose>,
+    /// Where to go, where it is not the file's end.
+    pub goal: Option<Pose>,
 }
 
 /// How to search.
@@ -124,8 +147,8 @@ pub struct DemoJob {
 /// The job `nav`: plan a path on a grid with eight neighbours.
 #[derive(Debug, Drop)]
 pub struct NavJob {
-    /// The environment file of the grid.
-    pub env: Name,
+    /// What the grid is made of.
+    pub sources: GridSources,
     /// The file of changes that are made from plan to plan, if there is one.
     pub changes: Option<Name>,
     /// How the path is to be searched; not by `back`, since the robot does not move here.
@@ -137,8 +160,8 @@ pub struct NavJob {
 /// The job `navcheck`: check the labels that a plan on a grid wrote.
 #[derive(Debug, Drop)]
 pub struct NavCheckJob {
-    /// The environment file of the grid.
-    pub env: Name,
+    /// What the grid is made of.
+    pub sources: GridSources,
     /// The file of changes that were made from plan to plan, if there is one.
     pub changes: Option<Name>,
     /// The file of labels.

@@ -3,6 +3,7 @@
 
 mod arguments;
 mod demo;
+mod ends;
 mod files;
 mod help;
 mod job;
@@ -13,11 +14,12 @@ mod values;
 mod words;
 
 pub use demo::{read_extent, read_seed};
+pub use ends::{pose_by, square_by};
 pub use files::form_named;
 pub use help::{Asked, read_asked};
 pub use job::{
-    CheckJob, DemoJob, Job, JobFault, LabelForm, NavCheckJob, NavJob, Outputs, PlanJob, Planner,
-    SearchJob, Sources,
+    CheckJob, DemoJob, GridSources, Job, JobFault, LabelForm, NavCheckJob, NavJob, Outputs,
+    PlanJob, Planner, SearchJob, Sources, Square,
 };
 pub use line::line_of;
 pub use name::Name;

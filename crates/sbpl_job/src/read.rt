@@ -1,15 +1,16 @@
 //! The job that the words name.
 
-ghost use Rattle.std.specs.Prelude.{◌≡◌, ◌≤◌, ◌^◌, false, IfErr, IfOk, None, Some, option_and_then};
+ghost use Rattle.std.specs.Prelude.{◌≡◌, false, IfErr, IfOk, None, Some, option_and_then};
 ghost use Rattle.sbpl_job.specs.Found.{job_found, set_in};
-ghost use Rattle.sbpl_job.specs.Jobs.{IsJob, IsSearchJob, check_in, command_named, demo_in, job_by, job_named, may_move};
-ghost use Rattle.sbpl_job.specs.Jobs.{nav_by, nav_check_in, nav_in, nav_on, plan_by, plan_in, plan_on, sweep_in};
+ghost use Rattle.sbpl_job.specs.Jobs.{AreSources, IsJob, IsSearchJob, check_in, command_named, demo_in, job_by, job_named};
+ghost use Rattle.sbpl_job.specs.Jobs.{may_move, nav_by, nav_check_in, nav_in, nav_on, plan_by, plan_in, plan_on, sweep_in};
 ghost use Rattle.sbpl_job.specs.Words.{Names, parts_in, texts};
 
 use crate::demo::{read_extent, read_seed};
-use crate::files::{name_of, outputs_of, sources_of};
+use crate::files::{grid_sources_of, name_of, outputs_of, sources_of};
 use crate::job::{
-    CheckJob, DemoJob, Job, JobFault, NavCheckJob, NavJob, Outputs, PlanJob, SearchJob, Sources,
+    CheckJob, DemoJob, GridSources, Job, JobFault, NavCheckJob, NavJob, Outputs, PlanJob,
+    SearchJob, Sources,
 };
 use crate::line::find_parts;
 use crate::name::Name;
@@ -58,7 +59,7 @@ fn plan_on(
     changes: Option<Name>,
     matches: &ArgMatches,
 ) -> Result<Job, JobFault>
-    requires range { sources.radius ≤ 10 ^ 12 }
+    requires range { AreSources sources }
     ensures job { Names (plan_on sources changes (set_in matches.now)) result }
     ensures range { IfOk result IsJob }
 {
@@ -121,38 +122,38 @@ fn demo_of(seed: &str, width: &str, height: &str) -> Result<Job, JobFault>
     }))
 }
 
-/// How the job `nav` on this environment, with these changes, searches, and what it writes.
+/// How the job `nav` on these sources, with these changes, searches, and what it writes.
 fn nav_settings(
     alloc: Global,
-    env: &Name,
+    from: &GridSources,
     changes: &Option<Name>,
     matches: &ArgMatches,
 ) -> Result<(SearchJob, Outputs), JobFault>
     ensures job { IfOk result
-        (λ x. nav_on env.now changes.now (set_in matches.now) ≡ Some (nav_by env.now changes.now x.1 x.0)) }
-    ensures none { IfErr result (λ e. e ≡ JobFault.Words → nav_on env.now changes.now (set_in matches.now) ≡ None) }
+        (λ x. nav_on from.now changes.now (set_in matches.now) ≡ Some (nav_by from.now changes.now x.1 x.0)) }
+    ensures none { IfErr result (λ e. e ≡ JobFault.Words → nav_on from.now changes.now (set_in matches.now) ≡ None) }
     ensures range { IfOk result (λ x. IsSearchJob x.0) }
     ensures stays { IfOk result (λ x. may_move x.0.planner ≡ false) }
 {
-    let files = [env.as_str()];
+    let files = [from.env.as_str()];
     let outputs = outputs_of(alloc, &files, changes, matches)?;
     let search = grid_search_of(matches)?;
     Ok((search, outputs))
 }
 
-/// The job `nav` on this environment, with these changes.
+/// The job `nav` on these sources, with these changes.
 fn nav_on(
     alloc: Global,
-    env: Name,
+    sources: GridSources,
     changes: Option<Name>,
     matches: &ArgMatches,
 ) -> Result<Job, JobFault>
-    ensures job { Names (nav_on env changes (set_in matches.now)) result }
+    ensures job { Names (nav_on sources changes (set_in matches.now)) result }
     ensures range { IfOk result IsJob }
 {
-    let (search, outputs) = nav_settings(alloc, &env, &changes, matches)?;
+    let (search, outputs) = nav_settings(alloc, &sources, &changes, matches)?;
     Ok(Job::Nav(NavJob {
-        env,
+        sources,
         changes,
         search,
         outputs,
@@ -164,9 +165,9 @@ fn nav_of(alloc: Global, env: &str, matches: &ArgMatches) -> Result<Job, JobFaul
     ensures job { Names (nav_in env.now (set_in matches.now)) result }
     ensures range { IfOk result IsJob }
 {
-    let env = Name::of(alloc, env)?;
+    let sources = grid_sources_of(alloc, env, matches)?;
     let changes = name_of(alloc, matches.get_str("changes"))?;
-    nav_on(alloc, env, changes, matches)
+    nav_on(alloc, sources, changes, matches)
 }
 
 /// The job `navcheck` of this file of labels.
@@ -180,7 +181,7 @@ fn nav_check_of(
     ensures range { IfOk result IsJob }
 {
     Ok(Job::NavCheck(NavCheckJob {
-        env: Name::of(alloc, env)?,
+        sources: grid_sources_of(alloc, env, matches)?,
         changes: name_of(alloc, matches.get_str("changes"))?,
         labels: Name::of(alloc, labels)?,
     }))

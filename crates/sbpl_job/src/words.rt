@@ -53,6 +53,10 @@ pub enum Setting {
     Trace,
     /// `--incumbent`: where the newest path after each plan is written.
     Incumbent,
+    /// `--start`: where to start, in place of the environment file's start.
+    Start,
+    /// `--goal`: where to go, in place of the environment file's end.
+    Goal,
 }
 
 /// Whether a word is plain: not empty, and it does not begin with `-`.
@@ -82,6 +86,8 @@ fn setting_named(word: &str) -> Option<Setting>
         "--labels-as" => Some(Setting::LabelsAs),
         "--trace" => Some(Setting::Trace),
         "--incumbent" => Some(Setting::Incumbent),
+        "--start" => Some(Setting::Start),
+        "--goal" => Some(Setting::Goal),
         _ => None,
     }
 }
@@ -94,12 +100,14 @@ fn takes(command: Command, setting: Setting) -> bool
         Command::Plan => true,
         Command::Check => matches!(
             setting,
-            Setting::Changes | Setting::Radius | Setting::Planner
+            Setting::Changes | Setting::Radius | Setting::Planner | Setting::Start | Setting::Goal
         ),
         Command::Sweep => matches!(setting, Setting::Radius),
         Command::Demo => false,
         Command::Nav => !matches!(setting, Setting::Radius),
-        Command::NavCheck => matches!(setting, Setting::Changes),
+        Command::NavCheck => {
+            matches!(setting, Setting::Changes | Setting::Start | Setting::Goal)
+        }
     }
 }
 

@@ -120,6 +120,7 @@ check_told s u f changes labels j file goals os (Some section.NoMemory) e checke
 refusal_message : (r : Refusal) (e : Ending) → number_of e.status ≡ refusal_status r → message_of e ≡ e.why
 refusal_message (refusal.Environment f) e is = message_at e 3 is
 refusal_message (refusal.Grid f) e is = message_at e 3 is
+refusal_message (refusal.OffMap end) e is = message_at e 2 is
 refusal_message (refusal.Primitives f) e is = message_at e 4 is
 refusal_message (refusal.TooWide i) e is = message_at e 4 is
 refusal_message (refusal.TooDear i) e is = message_at e 4 is

@@ -1,6 +1,7 @@
 //! The job `check`.
 
-ghost use Rattle.std.specs.Prelude.{◌<◌, ◌≤◌, ◌^◌, Bool, List, suc, length, IfErr, IfOk, OnErr};
+ghost use Rattle.std.specs.Prelude.{◌<◌, Bool, List, suc, length, IfErr, IfOk, OnErr};
+ghost use Rattle.sbpl_checks.specs.sbpl_job.Jobs.{AreSources};
 ghost use Rattle.sbpl_checks.specs.sbpl_job.declared.job.Job.TheVariants as Jobs;
 ghost use Rattle.sbpl_checks.specs.Checking.{EndsSections};
 ghost use Rattle.sbpl_checks.specs.sbpl_cost.Lattices.{network_of};
@@ -26,7 +27,7 @@ fn read_check<D: Desk>(
     job: &CheckJob,
     desk: &mut D,
 ) -> Result<(Lattice, Updates, Vec<u8>), JobStop>
-    requires range { job.now.sources.radius ≤ 10 ^ 12 }
+    requires ranges { AreSources job.now.sources }
     ensures updates { IfOk result (λ x. AreRead (D.state desk.old).held (check_files job.now) job.now.changes x.0 x.1) }
     ensures text { IfOk result (λ x. IsReadText ((D.state desk.old).held job.now.labels) x.2.items) }
     ensures stop { IfErr result (IsJobStop (D.state desk.old) (D.state desk.new) (Jobs.Check job.now)) }
@@ -87,7 +88,7 @@ pub(crate) fn run_check<D: Desk>(
     job: &CheckJob,
     desk: &mut D,
 ) -> Result<Ending, JobStop>
-    requires range { job.now.sources.radius ≤ 10 ^ 12 }
+    requires ranges { AreSources job.now.sources }
     ensures ends { IfOk result (λ e. (log : List Entry) → IsJobEnding (D.state desk.old) (D.state desk.new) log log
         (Jobs.Check job.now) e) }
     ensures stop { IfErr result (IsJobStop (D.state desk.old) (D.state desk.new) (Jobs.Check job.now)) }

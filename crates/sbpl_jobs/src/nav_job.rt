@@ -37,7 +37,7 @@ pub(crate) fn run_nav<R: Threads + Wait + Sync, D: Desk, T: Gate + Sync>(
     ensures same { IsSamePublisher live.old live.new }
     ensures frame { WritesOnly (IsOutputOf job.now.outputs) (D.state desk.old) (D.state desk.new) }
 {
-    let (nav, updates) = read_grid_updates(alloc, &job.env, &job.changes, desk)?;
+    let (nav, updates) = read_grid_updates(alloc, &job.sources, &job.changes, desk)?;
     let (start, goal) = nav.ends();
     let blockage = blockage_of(&nav, start, goal);
     let task = Task {
@@ -48,7 +48,7 @@ pub(crate) fn run_nav<R: Threads + Wait + Sync, D: Desk, T: Gate + Sync>(
         goal,
     };
     let status = make_plans(gate, alloc, nav, &task, live, &job.outputs, desk);
-    Ok(planned(alloc, job.env.as_str(), status, blockage))
+    Ok(planned(alloc, job.sources.env.as_str(), status, blockage))
 }
 
 /// The grid, the map updates of the change file, and the text of the labels.
@@ -57,12 +57,12 @@ fn read_nav_check<D: Desk>(
     job: &NavCheckJob,
     desk: &mut D,
 ) -> Result<(Nav, Updates, Vec<u8>), JobStop>
-    ensures updates { IfOk result (λ x. AreRead (D.state desk.old).held (grid_files job.now.env) job.now.changes x.0 x.1) }
+    ensures updates { IfOk result (λ x. AreRead (D.state desk.old).held (grid_files job.now.sources) job.now.changes x.0 x.1) }
     ensures text { IfOk result (λ x. IsReadText ((D.state desk.old).held job.now.labels) x.2.items) }
     ensures stop { IfErr result (IsJobStop (D.state desk.old) (D.state desk.new) (Jobs.NavCheck job.now)) }
     ensures frame { ReadsOnly (D.state desk.old) (D.state desk.new) }
 {
-    let (nav, updates) = match read_grid_updates(alloc, &job.env, &job.changes, desk) {
+    let (nav, updates) = match read_grid_updates(alloc, &job.sources, &job.changes, desk) {
         Ok(read) => read,
         Err(stop) => return Err(stop),
     };

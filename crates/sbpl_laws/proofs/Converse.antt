@@ -18,11 +18,13 @@ use Rattle.sbpl_promises.specs.sbpl_job.declared.job.NavCheckJob.{NavCheckJob}
 use Rattle.sbpl_promises.specs.sbpl_nav2d.World.{GridWorld}
 use Rattle.sbpl_laws.proofs.SamePlanned.{grid_by}
 use Rattle.sbpl_promises.specs.sbpl_job.declared.job.Job.TheVariants as job
+use Rattle.sbpl_promises.specs.sbpl_job.declared.job.GridSources.{GridSources}
 use Rattle.sbpl_promises.specs.sbpl_job.declared.job.Sources.{Sources}
+use Rattle.sbpl_promises.specs.sbpl_report.declared.refusal.PathEnd.{PathEnd}
 use Rattle.sbpl_promises.specs.sbpl_report.declared.refusal.Input.TheVariants as input
 use Rattle.sbpl_promises.specs.sbpl_report.declared.refusal.Refusal.{Refusal}
 use Rattle.sbpl_promises.specs.sbpl_report.declared.refusal.Refusal.TheVariants as refusal
-use Rattle.sbpl_promises.specs.Causes.{AtName, IsCause, IsChangesCause, IsEarlyCause, IsFaultyChanges, IsFaultyFor}
+use Rattle.sbpl_promises.specs.Causes.{AtName, IsCause, IsEndOff, IsChangesCause, IsEarlyCause, IsFaultyChanges, IsFaultyFor}
 use Rattle.sbpl_promises.specs.Causes.{IsGridCause, IsJobCause, IsLabelsCause, IsReadText, IsTooLong, NoneTooDear}
 use Rattle.sbpl_promises.specs.Causes.{ReadsUpdates, ReadsEnvironment, ReadsGrid, ReadsPrimitives, ReadsWorld}
 use Rattle.sbpl_promises.specs.Causes.{check_files, grid_files, grid_scope, lattice_files, plan_files, scope_of}
@@ -33,11 +35,11 @@ use Rattle.sbpl_promises.specs.Intents.{Intent, Refused, Planned, Checked, Liste
 use Rattle.sbpl_promises.specs.Intents.{Demonstrated, OutOfMemory, intent_status}
 use Rattle.sbpl_promises.specs.sbpl_report.Refusals.{refusal_status}
 use Rattle.sbpl_promises.specs.Promises.{AreGood, GivesIntent, IsNoCheck, IsOrFailed, Tells, TellsChangeFault}
-use Rattle.sbpl_promises.specs.Promises.{TellsUpdates, TellsEnvironment, TellsEnvironmentFault, TellsGrid}
+use Rattle.sbpl_promises.specs.Promises.{TellsEndOff, TellsGridEndOff, TellsUpdates, TellsEnvironment, TellsEnvironmentFault, TellsGrid}
 use Rattle.sbpl_promises.specs.Promises.{TellsGridFault, TellsPrimitiveFault, TellsPrimitives, TellsScope, TellsTooMuch}
 use Rattle.sbpl_promises.specs.Promises.{TellsWorld, changes_of, grid_of, sources_of}
-use Rattle.sbpl_promises.specs.Texts.{HasChangeFault, HasEnvironmentFault, HasGridFault}
-use Rattle.sbpl_promises.specs.Texts.{HasPrimitiveFault, IsChangeText, IsEnvironmentText, IsGridText}
+use Rattle.sbpl_promises.specs.Texts.{HasChangeFault, HasEndOff, HasEnvironmentFault, HasGridEndOff, HasGridFault}
+use Rattle.sbpl_promises.specs.Texts.{HasPrimitiveFault, IsChangeText, IsEnvironmentFor, IsGridFor}
 use Rattle.sbpl_promises.specs.Texts.{IsPrimitiveText, Scope, scope_for, still}
 use Rattle.sbpl_promises.specs.Writing.{Names, Told}
 use Rattle.sbpl_promises.specs.Clear.{TextsAreClear}
@@ -61,15 +63,15 @@ too_much_not_read held t (text, tells, long) read =
 
 -- the environment that was read stands in the text that the desk tells
 said_text : (held : Told) (from : Sources) (e : Environment) (cells text : List ℕ) → Tells (held from.env) text
-    → ReadsEnvironment held from e cells → IsEnvironmentText text e cells
+    → ReadsEnvironment held from e cells → IsEnvironmentFor from text e cells
 said_text held from e cells text tells says =
-    subst (λ t. IsEnvironmentText t e cells) (told_is _ text says.text tells.held_bytes says.read) says.stands
+    subst (λ t. IsEnvironmentFor from t e cells) (told_is _ text says.text tells.held_bytes says.read) says.stands
 
 -- where a fault is told, no environment was read
 not_said : TextsAreClear → (held : Told) (from : Sources) (f : EnvFault) (e : Environment) (cells : List ℕ)
     → TellsEnvironmentFault held from f → ReadsEnvironment held from e cells → ⊥
 not_said clear held from f e cells (text, tells, faulty) says =
-    clear.environment_fault text e cells f (said_text held from e cells text tells says) faulty
+    clear.environment_fault from text e cells f (said_text held from e cells text tells says) faulty
 
 -- where too much is told, no environment was read
 not_said_long : (held : Told) (from : Sources) (e : Environment) (cells : List ℕ) → TellsTooMuch (held from.env)
@@ -80,14 +82,14 @@ not_said_long held from e cells much says = too_much_not_read _ says.text much s
 pub same_environment : TextsAreClear → (held : Told) (from : Sources) (e d : Environment) (cells : List ℕ)
     → TellsEnvironment held from e → ReadsEnvironment held from d cells → d ≡ e
 same_environment clear held from e d cells (text, others, tells, stands) says =
-    (clear.environment text d e cells others (said_text held from d cells text tells says) stands).0
+    (clear.environment from text d e cells others (said_text held from d cells text tells says) stands).0
 
 -- the scope that a world which was read gives a change file is the one that is told
 pub same_scope : TextsAreClear → (held : Told) (from : Sources) (moving : Bool) (s : Scope) (w : World)
     → TellsScope held from moving s → ReadsWorld held from w → scope_of moving w ≡ s
 same_scope clear held from moving s w (text, e, cells, tells, stands, is) says =
     let both =
-    clear.environment text w.env e says.cells cells
+    clear.environment from text w.env e says.cells cells
     (said_text held from w.env says.cells text tells says.environment) stands in
     ap (λ (m : CellMap). scope_for moving w.env m) says.map
     ∙ ap (λ (d : Environment).
@@ -98,8 +100,15 @@ same_scope clear held from moving s w (text, e, cells, tells, stands, is) says =
 not_faulty : TextsAreClear → (held : Told) (from : Sources) (e : Environment) (f : EnvFault) (t : List ℕ)
     → TellsEnvironment held from e → IsReadText (held from.env) t → HasEnvironmentFault t f → ⊥
 not_faulty clear held from e f t (text, cells, tells, stands) read faulty =
-    clear.environment_fault text e cells f stands
+    clear.environment_fault from text e cells f stands
     (subst (λ u. HasEnvironmentFault u f) (told_is _ text t tells.held_bytes read) faulty)
+
+-- where an environment is told, no end was off its map
+not_off : TextsAreClear → (held : Told) (from : Sources) (e : Environment) (end : PathEnd)
+    → TellsEnvironment held from e → IsEndOff held from end → ⊥
+not_off clear held from e end (text, cells, tells, stands) off =
+    clear.end_off from text e cells end stands
+    (subst (λ u. HasEndOff from u end) (told_is _ text off.text tells.held_bytes off.read) off.off)
 
 environment_not_long : (held : Told) (from : Sources) (e : Environment) → TellsEnvironment held from e
     → IsTooLong (held from.env) → ⊥
@@ -271,49 +280,50 @@ sweep_reads from = record { cause = λ held Failed r cause. inl (inl cause); mor
     more held Failed OutOfMemory is gives = absurd is
     more held Failed _ is gives = absurd gives
 
-nav_reads : (n : NavJob) → IsReadFrom (job.Nav n) (grid_files n.env) n.changes
+nav_reads : (n : NavJob) → IsReadFrom (job.Nav n) (grid_files n.sources) n.changes
 nav_reads n = record { cause = λ held Failed r cause. inl cause; more = more }
   where
     more : (held : Told) (Failed : Names) (i : Intent) → IsMore i → GivesIntent held Failed (job.Nav n) i
-        → HasRead held (grid_files n.env) n.changes
+        → HasRead held (grid_files n.sources) n.changes
     more held Failed (Planned records all log broken) is gives =
         record { world = gives.world; updates = gives.updates; says = gives.says; stands = gives.changes_say }
     more held Failed (Refused r) is gives = absurd is
     more held Failed OutOfMemory is gives = absurd is
     more held Failed _ is gives = absurd gives
 
-nav_check_reads : (n : NavCheckJob) → IsReadFrom (job.NavCheck n) (grid_files n.env) n.changes
+nav_check_reads : (n : NavCheckJob) → IsReadFrom (job.NavCheck n) (grid_files n.sources) n.changes
 nav_check_reads n = record { cause = cause; more = more }
   where
     cause : (held : Told) (Failed : Names) (r : Refusal) → IsJobCause held Failed (job.NavCheck n) r
-        → IsEarlyCause held Failed (grid_files n.env) n.changes r
-        ⊎ (HasRead held (grid_files n.env) n.changes × (IsNoCheck (job.NavCheck n) → ⊥))
+        → IsEarlyCause held Failed (grid_files n.sources) n.changes r
+        ⊎ (HasRead held (grid_files n.sources) n.changes × (IsNoCheck (job.NavCheck n) → ⊥))
     cause held Failed r (inl x) = inl x
     cause held Failed r (inr x) =
-        inr (labels_updates held Failed (grid_files n.env) n.changes n.labels r x, λ none. none)
+        inr (labels_updates held Failed (grid_files n.sources) n.changes n.labels r x, λ none. none)
 
     more : (held : Told) (Failed : Names) (i : Intent) → IsMore i → GivesIntent held Failed (job.NavCheck n) i
-        → HasRead held (grid_files n.env) n.changes
+        → HasRead held (grid_files n.sources) n.changes
     more held Failed (Checked goals os end) is gives =
         record { world = gives.world; updates = gives.updates; says = gives.says; stands = gives.changes_say }
     more held Failed (Refused r) is gives = absurd is
     more held Failed OutOfMemory is gives = absurd is
     more held Failed _ is gives = absurd gives
 
-same_env : (a b : List ℕ) → ◌≡◌ {A = Option (List ℕ)} (Some a) (Some b) → a ≡ b
-same_env a b is = cc
+same_grid_sources : (s t : GridSources) → ◌≡◌ {A = Option GridSources} (Some s) (Some t) → s ≡ t
+same_grid_sources s t is = cc
 
 -- a job on a grid reads its file
-pub grid_reads : (j : Job) (env : List ℕ) → grid_of j ≡ Some env → IsReadFrom j (grid_files env) (changes_of j)
-grid_reads (job.Nav n) env is =
-    subst (λ (e : List ℕ). IsReadFrom (job.Nav n) (grid_files e) n.changes) (same_env n.env env is) (nav_reads n)
-grid_reads (job.NavCheck n) env is =
-    subst (λ (e : List ℕ). IsReadFrom (job.NavCheck n) (grid_files e) n.changes)
-    (same_env n.env env is) (nav_check_reads n)
-grid_reads (job.Plan p) env is = absurd cc
-grid_reads (job.Check c) env is = absurd cc
-grid_reads (job.Sweep from) env is = absurd cc
-grid_reads (job.Demo d) env is = absurd cc
+pub grid_reads : (j : Job) (from : GridSources) → grid_of j ≡ Some from → IsReadFrom j (grid_files from) (changes_of j)
+grid_reads (job.Nav n) from is =
+    subst (λ (s : GridSources). IsReadFrom (job.Nav n) (grid_files s) n.changes)
+    (same_grid_sources n.sources from is) (nav_reads n)
+grid_reads (job.NavCheck n) from is =
+    subst (λ (s : GridSources). IsReadFrom (job.NavCheck n) (grid_files s) n.changes)
+    (same_grid_sources n.sources from is) (nav_check_reads n)
+grid_reads (job.Plan p) from is = absurd cc
+grid_reads (job.Check c) from is = absurd cc
+grid_reads (job.Sweep s) from is = absurd cc
+grid_reads (job.Demo d) from is = absurd cc
 
 -- a job on a lattice reads its files
 pub lattice_reads : (j : Job) (from : Sources) → sources_of j ≡ Some from
@@ -423,10 +433,19 @@ module _ (clear : TextsAreClear) (held : Told) (Failed : Names) {W : Type 0} (f 
       (subst (λ (t : Scope). IsChangeText t text c.updates) (good.scope c.world c.says) here) faulty
 
 module _ (clear : TextsAreClear) (held : Told) (Failed : Names) (from : Sources) where
+  -- where an end is told to be off the map, no environment was read
+  off_not_said : (end : PathEnd) (e : Environment) (cells : List ℕ) → TellsEndOff held from end
+      → ReadsEnvironment held from e cells → ⊥
+  off_not_said end e cells (text, tells, off) says =
+      clear.end_off from text e cells end (said_text held from e cells text tells says) off
+
   -- a faulty environment
   pub environment_faulty : (f : EnvFault) → TellsEnvironmentFault held from f → (r : Refusal)
       → IsCause held Failed from r → IsOrFailed 3 (refusal_status r)
   environment_faulty f tells (refusal.Environment x) p = inl refl
+  environment_faulty f (text, tells, faulty) (refusal.OffMap x) p =
+      absurd (clear.end_fault from text x f (subst (λ (t : List ℕ). HasEndOff from t x)
+      (told_is _ text p.text tells.held_bytes p.read) p.off) faulty)
   environment_faulty f tells (refusal.Primitives x) p = absurd (not_said clear held from f _ _ tells p.environment)
   environment_faulty f tells (refusal.TooWide x) p = absurd (not_said clear held from f _ _ tells p.environment)
   environment_faulty f tells (refusal.TooDear x) p = absurd (not_said clear held from f _ _ tells p.environment)
@@ -444,6 +463,7 @@ module _ (clear : TextsAreClear) (held : Told) (Failed : Names) (from : Sources)
   pub environment_long : TellsTooMuch (held from.env) → (r : Refusal) → IsCause held Failed from r
       → IsOrFailed 8 (refusal_status r)
   environment_long much (refusal.Environment x) p = absurd (too_much_not_read _ p.text much p.read)
+  environment_long much (refusal.OffMap x) p = absurd (too_much_not_read _ p.text much p.read)
   environment_long much (refusal.Primitives x) p = absurd (not_said_long held from _ _ much p.environment)
   environment_long much (refusal.TooWide x) p = absurd (not_said_long held from _ _ much p.environment)
   environment_long much (refusal.TooDear x) p = absurd (not_said_long held from _ _ much p.environment)
@@ -454,11 +474,31 @@ module _ (clear : TextsAreClear) (held : Told) (Failed : Names) (from : Sources)
   pub environment_long_none : TellsTooMuch (held from.env) → (w : World) → ReadsWorld held from w → ⊥
   environment_long_none much w p = not_said_long held from _ _ much p.environment
 
+  -- an end that is off the map
+  pub end_off : (end : PathEnd) → TellsEndOff held from end → (r : Refusal) → IsCause held Failed from r
+      → IsOrFailed 2 (refusal_status r)
+  end_off end tells (refusal.Environment x) p =
+      absurd (clear.end_fault from tells.0 end x tells.2 (subst (λ (t : List ℕ). HasEnvironmentFault t x)
+      (told_is _ tells.0 p.text tells.1.held_bytes p.read) p.faulty))
+  end_off end tells (refusal.OffMap x) p = inl refl
+  end_off end tells (refusal.Primitives x) p = absurd (off_not_said end p.env p.cells tells p.environment)
+  end_off end tells (refusal.TooWide x) p = absurd (off_not_said end p.env p.cells tells p.environment)
+  end_off end tells (refusal.TooDear x) p = absurd (off_not_said end p.env p.cells tells p.environment)
+  end_off end tells (refusal.Read x) p = failed_read 2
+  end_off end tells (refusal.Length input.Environment) p = absurd (too_long_not_short _ tells.0 tells.1 p)
+  end_off end tells (refusal.Length input.Primitives) p =
+      absurd (off_not_said end p.env p.cells tells p.environment)
+  end_off end tells _ p = absurd p
+
+  pub end_off_none : (end : PathEnd) → TellsEndOff held from end → (w : World) → ReadsWorld held from w → ⊥
+  end_off_none end tells w p = off_not_said end w.env p.cells tells p.environment
+
   -- a primitive file that is too long
   pub primitives_long : (env : Environment) → TellsEnvironment held from env → TellsTooMuch (held from.prims)
       → (r : Refusal) → IsCause held Failed from r → IsOrFailed 8 (refusal_status r)
   primitives_long env told much (refusal.Environment x) p =
       absurd (not_faulty clear held from env x p.text told p.read p.faulty)
+  primitives_long env told much (refusal.OffMap x) p = absurd (not_off clear held from env x told p)
   primitives_long env told much (refusal.Primitives x) p =
       absurd (too_much_not_read _ p.primitives.text much p.primitives.read)
   primitives_long env told much (refusal.TooWide x) p =
@@ -479,6 +519,7 @@ module _ (clear : TextsAreClear) (held : Told) (Failed : Names) (from : Sources)
       → IsOrFailed 4 (refusal_status r)
   primitives_faulty env f told tells (refusal.Environment x) p =
       absurd (not_faulty clear held from env x p.text told p.read p.faulty)
+  primitives_faulty env f told tells (refusal.OffMap x) p = absurd (not_off clear held from env x told p)
   primitives_faulty env f told tells (refusal.Primitives x) p = inl refl
   primitives_faulty env f told tells (refusal.TooWide x) p = inl refl
   primitives_faulty env f told tells (refusal.TooDear x) p = inl refl
@@ -502,6 +543,8 @@ module _ (clear : TextsAreClear) (held : Told) (Failed : Names) (from : Sources)
       → IsCause held Failed from r → IsOrFailed wanted (refusal_status r)
   primitives_good env ps told tells wanted wide dear (refusal.Environment x) p =
       absurd (not_faulty clear held from env x p.text told p.read p.faulty)
+  primitives_good env ps told tells wanted wide dear (refusal.OffMap x) p =
+      absurd (not_off clear held from env x told p)
   primitives_good env ps told tells wanted wide dear (refusal.Primitives x) p =
       absurd (primitives_not_faulty clear held from env _ _ ps x told tells p.environment p.primitives)
   primitives_good env ps told tells wanted wide dear (refusal.TooWide x) p =
@@ -569,51 +612,77 @@ module _ (clear : TextsAreClear) (held : Told) (Failed : Names) (from : Sources)
 
 -- ---- grids
 
-module _ (clear : TextsAreClear) (held : Told) (Failed : Names) (env : List ℕ) where
+module _ (clear : TextsAreClear) (held : Told) (Failed : Names) (from : GridSources) where
   -- a faulty environment file
-  pub grid_faulty : (f : EnvFault) → TellsGridFault held env f → (r : Refusal) → IsGridCause held Failed env r
+  pub grid_faulty : (f : EnvFault) → TellsGridFault held from f → (r : Refusal) → IsGridCause held Failed from r
       → IsOrFailed 3 (refusal_status r)
   grid_faulty f tells (refusal.Grid x) p = inl refl
+  grid_faulty f tells (refusal.OffMap x) p =
+      absurd (clear.grid_end_fault from tells.0 x f (subst (λ (t : List ℕ). HasGridEndOff from t x)
+      (told_is _ tells.0 p.text tells.1.held_bytes p.read) p.off) tells.2)
   grid_faulty f tells (refusal.Read x) p = failed_read 3
   grid_faulty f tells (refusal.Length input.Environment) p = absurd (too_long_not_short _ tells.0 tells.1 p)
   grid_faulty f tells _ p = absurd p
 
-  pub grid_faulty_none : (f : EnvFault) → TellsGridFault held env f → (w : GridWorld) → ReadsGrid held env w → ⊥
+  pub grid_faulty_none : (f : EnvFault) → TellsGridFault held from f → (w : GridWorld) → ReadsGrid held from w → ⊥
   grid_faulty_none f (text, tells, faulty) w says =
-      clear.grid_fault text w.env says.cells f (subst (λ (t : List ℕ). IsGridText t w.env says.cells)
-      (told_is (held env) text says.text tells.held_bytes says.read) says.stands) faulty
+      clear.grid_fault from text w.env says.cells f (subst (λ (t : List ℕ). IsGridFor from t w.env says.cells)
+      (told_is (held from.env) text says.text tells.held_bytes says.read) says.stands) faulty
 
   -- one that is too long
-  pub grid_long : TellsTooMuch (held env) → (r : Refusal) → IsGridCause held Failed env r
+  pub grid_long : TellsTooMuch (held from.env) → (r : Refusal) → IsGridCause held Failed from r
       → IsOrFailed 8 (refusal_status r)
   grid_long much (refusal.Grid x) p = absurd (too_much_not_read _ p.text much p.read)
+  grid_long much (refusal.OffMap x) p = absurd (too_much_not_read _ p.text much p.read)
   grid_long much (refusal.Read x) p = failed_read 8
   grid_long much (refusal.Length x) p = inl refl
   grid_long much _ p = absurd p
 
-  pub grid_long_none : TellsTooMuch (held env) → (w : GridWorld) → ReadsGrid held env w → ⊥
+  pub grid_long_none : TellsTooMuch (held from.env) → (w : GridWorld) → ReadsGrid held from w → ⊥
   grid_long_none much w says = too_much_not_read _ says.text much says.read
 
+  -- an end that is off the map
+  grid_off_not_said : (end : PathEnd) (w : GridWorld) → TellsGridEndOff held from end → ReadsGrid held from w → ⊥
+  grid_off_not_said end w (text, tells, off) says =
+      clear.grid_end_off from text w.env says.cells end (subst (λ (t : List ℕ). IsGridFor from t w.env says.cells)
+      (told_is (held from.env) text says.text tells.held_bytes says.read) says.stands) off
+
+  pub grid_end_off : (end : PathEnd) → TellsGridEndOff held from end → (r : Refusal) → IsGridCause held Failed from r
+      → IsOrFailed 2 (refusal_status r)
+  grid_end_off end tells (refusal.Grid x) p =
+      absurd (clear.grid_end_fault from tells.0 end x tells.2 (subst (λ (t : List ℕ). HasGridFault t x)
+      (told_is _ tells.0 p.text tells.1.held_bytes p.read) p.faulty))
+  grid_end_off end tells (refusal.OffMap x) p = inl refl
+  grid_end_off end tells (refusal.Read x) p = failed_read 2
+  grid_end_off end tells (refusal.Length input.Environment) p = absurd (too_long_not_short _ tells.0 tells.1 p)
+  grid_end_off end tells _ p = absurd p
+
+  pub grid_end_off_none : (end : PathEnd) → TellsGridEndOff held from end → (w : GridWorld) → ReadsGrid held from w → ⊥
+  grid_end_off_none end tells w says = grid_off_not_said end w tells says
+
   -- where a world is told, it is the one that is read
-  pub same_grid : (w v : GridWorld) → TellsGrid held env w → ReadsGrid held env v → v ≡ w
+  pub same_grid : (w v : GridWorld) → TellsGrid held from w → ReadsGrid held from v → v ≡ w
   same_grid w v tells says =
-      let own : IsGridText tells.text v.env says.cells =
-      subst (λ (t : List ℕ). IsGridText t v.env says.cells)
-      (told_is (held env) tells.text says.text tells.told.held_bytes says.read) says.stands in
-      let both = clear.grid tells.text v.env w.env says.cells tells.cells own tells.stands in
+      let own : IsGridFor from tells.text v.env says.cells =
+      subst (λ (t : List ℕ). IsGridFor from t v.env says.cells)
+      (told_is (held from.env) tells.text says.text tells.told.held_bytes says.read) says.stands in
+      let both = clear.grid from tells.text v.env w.env says.cells tells.cells own tells.stands in
       grid_by v w says.cells tells.cells both.0 both.1 says.map tells.map
 
-  told_grid_refused : (w : GridWorld) → TellsGrid held env w → (wanted : ℕ) (r : Refusal)
-      → IsGridCause held Failed env r → IsOrFailed wanted (refusal_status r)
+  told_grid_refused : (w : GridWorld) → TellsGrid held from w → (wanted : ℕ) (r : Refusal)
+      → IsGridCause held Failed from r → IsOrFailed wanted (refusal_status r)
+  told_grid_refused w tells wanted (refusal.OffMap x) p =
+      absurd (clear.grid_end_off from tells.text w.env tells.cells x tells.stands (subst (λ (t : List ℕ).
+      HasGridEndOff from t x) (told_is (held from.env) tells.text p.text tells.told.held_bytes p.read) p.off))
   told_grid_refused w tells wanted (refusal.Grid x) p =
-      absurd (clear.grid_fault tells.text w.env tells.cells x tells.stands (subst (λ (t : List ℕ). HasGridFault t x)
-      (told_is (held env) tells.text p.text tells.told.held_bytes p.read) p.faulty))
+      absurd (clear.grid_fault from tells.text w.env tells.cells x tells.stands (subst (λ (t : List ℕ). HasGridFault t x)
+      (told_is (held from.env) tells.text p.text tells.told.held_bytes p.read) p.faulty))
   told_grid_refused w tells wanted (refusal.Read x) p = failed_read wanted
   told_grid_refused w tells wanted (refusal.Length input.Environment) p =
       absurd (too_long_not_short _ tells.text tells.told p)
   told_grid_refused w tells wanted _ p = absurd p
 
   -- such a file is a good one
-  pub good_grid : (w : GridWorld) → TellsGrid held env w → AreGoodFiles held Failed (grid_files env) (grid_scope w)
+  pub good_grid : (w : GridWorld) → TellsGrid held from w → AreGoodFiles held Failed (grid_files from) (grid_scope w)
   good_grid w tells =
       record { refused = told_grid_refused w tells; scope = λ v says. ap grid_scope (same_grid w v tells says) }

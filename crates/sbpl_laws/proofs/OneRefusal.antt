@@ -11,21 +11,23 @@ use Rattle.sbpl_promises.specs.sbpl_sweep.Widths.{IsFirstTooWide, NoneTooWide}
 use Rattle.sbpl_promises.specs.sbpl_cost.PrimitiveCost.{IsFirstTooDear, most_cost, primitive_cost}
 use Rattle.sbpl_promises.specs.sbpl_cost.World.{World}
 use Rattle.sbpl_promises.specs.sbpl_map.declared.fault.ChangeFault.{ChangeFault}
+use Rattle.sbpl_promises.specs.sbpl_job.declared.job.GridSources.{GridSources}
 use Rattle.sbpl_promises.specs.sbpl_job.declared.job.Sources.{Sources}
+use Rattle.sbpl_promises.specs.sbpl_report.declared.refusal.PathEnd.{PathEnd}
 use Rattle.sbpl_promises.specs.sbpl_report.declared.refusal.Input.{Input}
 use Rattle.sbpl_promises.specs.sbpl_report.declared.refusal.Input.TheVariants as input
 use Rattle.sbpl_promises.specs.sbpl_report.declared.refusal.Refusal.{Refusal}
 use Rattle.sbpl_promises.specs.sbpl_report.declared.refusal.Refusal.TheVariants as refusal
 use Rattle.sbpl_promises.specs.Causes.{AtName, IsCause, IsChangesCause, IsCheckCause, IsEarlyCause, IsEarlyInput}
-use Rattle.sbpl_promises.specs.Causes.{IsFaultyChanges, IsFaultyEnvironment, IsFaultyFor, IsFaultyGrid, IsGridCause}
+use Rattle.sbpl_promises.specs.Causes.{IsEndOff, IsFaultyChanges, IsFaultyEnvironment, IsFaultyFor, IsFaultyGrid, IsGridCause, IsGridEndOff}
 use Rattle.sbpl_promises.specs.Causes.{IsLabelsCause, IsReadText, IsSource, IsTooLong, ReadsUpdates, ReadsEnvironment}
 use Rattle.sbpl_promises.specs.Causes.{ReadsGrid, ReadsPrimitives, ReadsWorld, grid_files, lattice_files}
 use Rattle.sbpl_promises.specs.sbpl_nav2d.World.{GridWorld}
 use Rattle.sbpl_promises.specs.declared.updates.Updates.{Updates}
 use Rattle.sbpl_promises.specs.Clear.{TextsAreClear}
 use Rattle.sbpl_promises.specs.WorldFiles.{WorldFiles}
-use Rattle.sbpl_promises.specs.Texts.{HasChangeFault, HasEnvironmentFault, HasGridFault, HasPrimitiveFault}
-use Rattle.sbpl_promises.specs.Texts.{IsChangeText, IsEnvironmentText, IsGridText, IsPrimitiveText, Scope}
+use Rattle.sbpl_promises.specs.Texts.{HasChangeFault, HasEndOff, HasEnvironmentFault, HasGridEndOff, HasGridFault, HasPrimitiveFault}
+use Rattle.sbpl_promises.specs.Texts.{IsChangeText, IsEnvironmentFor, IsGridFor, IsPrimitiveText, Scope}
 use Rattle.sbpl_promises.specs.Writing.{IsNamed, Names, Told}
 use Rattle.sbpl_laws.proofs.Converse.{none_is_first, none_is_widest}
 use Rattle.sbpl_laws.proofs.SamePlanned.{StandForOne, read_once}
@@ -60,11 +62,12 @@ one_dearest e ps i j x y = elim (cases_lt i j) [
 
 -- ---- the causes in the order in which the files are judged
 
--- the environment file is faulty or too long
+-- the environment file is faulty or too long, or an end is off its map
 abbrev IsBadEnvironment : Told → Sources → Refusal → Type 0
 IsBadEnvironment held from r =
     ((f : EnvFault) × (r ≡ refusal.Environment f) × IsFaultyEnvironment held from f)
-    ⊎ ((r ≡ refusal.Length input.Environment) × IsTooLong (held from.env))
+    ⊎ (((r ≡ refusal.Length input.Environment) × IsTooLong (held from.env))
+    ⊎ ((end : PathEnd) × (r ≡ refusal.OffMap end) × IsEndOff held from end))
 
 -- the primitive file is, for this environment
 abbrev AreBadPrimitives : Told → Sources → Environment → Refusal → Type 0
@@ -121,6 +124,7 @@ at_name_on (Some name) P Q on at = on name at
 pub source_cause : (held : Told) (Failed : Names) (from : Sources) (r : Refusal) → IsCause held Failed from r
     → AreBadSources held from r ⊎ IsFailedRead (IsSource from) Failed r
 source_cause held Failed from (refusal.Environment x) c = inl (inl (inl (x, refl, c)))
+source_cause held Failed from (refusal.OffMap x) c = inl (inl (inr (inr (x, refl, c))))
 source_cause held Failed from (refusal.Primitives x) c =
     inl (inr (c.env, c.cells, c.environment, inl (inl (x, refl, c.primitives))))
 source_cause held Failed from (refusal.TooWide i) c =
@@ -131,7 +135,7 @@ source_cause held Failed from (refusal.Read input.Environment) c =
     inr (input.Environment, refl, (from.env, inl refl, c))
 source_cause held Failed from (refusal.Read input.Primitives) c =
     inr (input.Primitives, refl, (from.prims, inr refl, c.holds))
-source_cause held Failed from (refusal.Length input.Environment) c = inl (inl (inr (refl, c)))
+source_cause held Failed from (refusal.Length input.Environment) c = inl (inl (inr (inl (refl, c))))
 source_cause held Failed from (refusal.Length input.Primitives) c =
     inl (inr (c.env, c.cells, c.environment, inl (inr (refl, c.holds))))
 source_cause held Failed from _ c = absurd c
@@ -177,34 +181,54 @@ module _ (clear : TextsAreClear) (held : Told) where
   module _ (from : Sources) (told_env : IsSome (held from.env)) (told_prims : IsSome (held from.prims)) where
     -- the environment
 
+    off_not_faulty : (end : PathEnd) (f : EnvFault) → IsEndOff held from end → IsFaultyEnvironment held from f → ⊥
+    off_not_faulty end f x y =
+        let text : y.text ≡ x.text = read_once (held from.env) y.text x.text told_env y.read x.read in
+        clear.end_fault from x.text end f x.off (subst (λ (t : List ℕ). HasEnvironmentFault t f) text y.faulty)
+
     one_environment : (r u : Refusal) → IsBadEnvironment held from r → IsBadEnvironment held from u → r ≡ u
     one_environment r u (inl (f, is, x)) (inl (g, also, y)) =
         let text : y.text ≡ x.text = read_once (held from.env) y.text x.text told_env y.read x.read in
         let own : HasEnvironmentFault x.text g = subst (λ (t : List ℕ). HasEnvironmentFault t g) text y.faulty in
         is ∙ ap (λ (e : EnvFault). refusal.Environment e) (clear.one_environment_fault x.text f g x.faulty own)
         ∙ sym also
-    one_environment r u (inl (f, is, x)) (inr (also, long)) =
+    one_environment r u (inl (f, is, x)) (inr (inl (also, long))) =
         absurd (read_is_short (held from.env) x.text told_env x.read long)
-    one_environment r u (inr (is, long)) (inl (g, also, y)) =
+    one_environment r u (inl (f, is, x)) (inr (inr (end, also, y))) = absurd (off_not_faulty end f y x)
+    one_environment r u (inr (inl (is, long))) (inl (g, also, y)) =
         absurd (read_is_short (held from.env) y.text told_env y.read long)
-    one_environment r u (inr (is, long)) (inr (also, too)) = is ∙ sym also
+    one_environment r u (inr (inl (is, long))) (inr (inl (also, too))) = is ∙ sym also
+    one_environment r u (inr (inl (is, long))) (inr (inr (end, also, y))) =
+        absurd (read_is_short (held from.env) y.text told_env y.read long)
+    one_environment r u (inr (inr (end, is, x))) (inl (g, also, y)) = absurd (off_not_faulty end g x y)
+    one_environment r u (inr (inr (end, is, x))) (inr (inl (also, long))) =
+        absurd (read_is_short (held from.env) x.text told_env x.read long)
+    one_environment r u (inr (inr (end, is, x))) (inr (inr (other, also, y))) =
+        let text : y.text ≡ x.text = read_once (held from.env) y.text x.text told_env y.read x.read in
+        let own : HasEndOff from x.text other = subst (λ (t : List ℕ). HasEndOff from t other) text y.off in
+        is ∙ ap (λ (e : PathEnd). refusal.OffMap e) (clear.one_end from x.text end other x.off own) ∙ sym also
 
     not_environment : (r : Refusal) (e : Environment) (cells : List ℕ) → IsBadEnvironment held from r
         → ReadsEnvironment held from e cells → ⊥
     not_environment r e cells (inl (f, is, x)) says =
         let text : says.text ≡ x.text = read_once (held from.env) says.text x.text told_env says.read x.read in
-        let own : IsEnvironmentText x.text e cells =
-        subst (λ (t : List ℕ). IsEnvironmentText t e cells) text says.stands in
-        clear.environment_fault x.text e cells f own x.faulty
-    not_environment r e cells (inr (is, long)) says = read_is_short (held from.env) says.text told_env says.read long
+        let own : IsEnvironmentFor from x.text e cells =
+        subst (λ (t : List ℕ). IsEnvironmentFor from t e cells) text says.stands in
+        clear.environment_fault from x.text e cells f own x.faulty
+    not_environment r e cells (inr (inr (end, is, x))) says =
+        let text : says.text ≡ x.text = read_once (held from.env) says.text x.text told_env says.read x.read in
+        let own : IsEnvironmentFor from x.text e cells =
+        subst (λ (t : List ℕ). IsEnvironmentFor from t e cells) text says.stands in
+        clear.end_off from x.text e cells end own x.off
+    not_environment r e cells (inr (inl (is, long))) says = read_is_short (held from.env) says.text told_env says.read long
 
     same_said : (e d : Environment) (cells others : List ℕ) → ReadsEnvironment held from e cells
         → ReadsEnvironment held from d others → d ≡ e
     same_said e d cells others x y =
         let text : y.text ≡ x.text = read_once (held from.env) y.text x.text told_env y.read x.read in
-        let own : IsEnvironmentText x.text d others =
-        subst (λ (t : List ℕ). IsEnvironmentText t d others) text y.stands in
-        (clear.environment x.text d e others cells own x.stands).0
+        let own : IsEnvironmentFor from x.text d others =
+        subst (λ (t : List ℕ). IsEnvironmentFor from t d others) text y.stands in
+        (clear.environment from x.text d e others cells own x.stands).0
 
     -- the primitives, for an environment
 
@@ -334,40 +358,64 @@ lattices_call_for_one clear held from moving told_env told_prims = record {
   none = not_world clear held from told_env told_prims;
 }
 
--- the environment file of a grid is faulty or too long
-abbrev pub IsBadGrid : Told → (env : List ℕ) → Refusal → Type 0
-IsBadGrid held env r =
-    ((f : EnvFault) × (r ≡ refusal.Grid f) × IsFaultyGrid held env f)
-    ⊎ ((r ≡ refusal.Length input.Environment) × IsTooLong (held env))
+-- the environment file of a grid is faulty or too long, or an end is off its map
+abbrev pub IsBadGrid : Told → GridSources → Refusal → Type 0
+IsBadGrid held from r =
+    ((f : EnvFault) × (r ≡ refusal.Grid f) × IsFaultyGrid held from f)
+    ⊎ (((r ≡ refusal.Length input.Environment) × IsTooLong (held from.env))
+    ⊎ ((end : PathEnd) × (r ≡ refusal.OffMap end) × IsGridEndOff held from end))
 
-grid_cause : (held : Told) (Failed : Names) (env : List ℕ) (r : Refusal) → IsGridCause held Failed env r
-    → IsBadGrid held env r ⊎ IsFailedRead (λ name. name ≡ env) Failed r
-grid_cause held Failed env (refusal.Grid x) c = inl (inl (x, refl, c))
-grid_cause held Failed env (refusal.Read input.Environment) c = inr (input.Environment, refl, (env, refl, c))
-grid_cause held Failed env (refusal.Length input.Environment) c = inl (inr (refl, c))
-grid_cause held Failed env _ c = absurd c
+grid_cause : (held : Told) (Failed : Names) (from : GridSources) (r : Refusal) → IsGridCause held Failed from r
+    → IsBadGrid held from r ⊎ IsFailedRead (λ name. name ≡ from.env) Failed r
+grid_cause held Failed from (refusal.Grid x) c = inl (inl (x, refl, c))
+grid_cause held Failed from (refusal.OffMap x) c = inl (inr (inr (x, refl, c)))
+grid_cause held Failed from (refusal.Read input.Environment) c = inr (input.Environment, refl, (from.env, refl, c))
+grid_cause held Failed from (refusal.Length input.Environment) c = inl (inr (inl (refl, c)))
+grid_cause held Failed from _ c = absurd c
 
-module _ (clear : TextsAreClear) (held : Told) (env : List ℕ) (told : IsSome (held env)) where
-  one_grid : (r u : Refusal) → IsBadGrid held env r → IsBadGrid held env u → r ≡ u
+module _ (clear : TextsAreClear) (held : Told) (from : GridSources) (told : IsSome (held from.env)) where
+  off_grid_not_faulty : (end : PathEnd) (f : EnvFault) → IsGridEndOff held from end → IsFaultyGrid held from f → ⊥
+  off_grid_not_faulty end f x y =
+      let text : y.text ≡ x.text = read_once (held from.env) y.text x.text told y.read x.read in
+      clear.grid_end_fault from x.text end f x.off (subst (λ (t : List ℕ). HasGridFault t f) text y.faulty)
+
+  one_grid : (r u : Refusal) → IsBadGrid held from r → IsBadGrid held from u → r ≡ u
   one_grid r u (inl (f, is, x)) (inl (g, also, y)) =
-      let text : y.text ≡ x.text = read_once (held env) y.text x.text told y.read x.read in
+      let text : y.text ≡ x.text = read_once (held from.env) y.text x.text told y.read x.read in
       let own : HasGridFault x.text g = subst (λ (t : List ℕ). HasGridFault t g) text y.faulty in
       is ∙ ap (λ (e : EnvFault). refusal.Grid e) (clear.one_grid_fault x.text f g x.faulty own) ∙ sym also
-  one_grid r u (inl (f, is, x)) (inr (also, long)) = absurd (read_is_short (held env) x.text told x.read long)
-  one_grid r u (inr (is, long)) (inl (g, also, y)) = absurd (read_is_short (held env) y.text told y.read long)
-  one_grid r u (inr (is, long)) (inr (also, too)) = is ∙ sym also
+  one_grid r u (inl (f, is, x)) (inr (inl (also, long))) =
+      absurd (read_is_short (held from.env) x.text told x.read long)
+  one_grid r u (inl (f, is, x)) (inr (inr (end, also, y))) = absurd (off_grid_not_faulty end f y x)
+  one_grid r u (inr (inl (is, long))) (inl (g, also, y)) =
+      absurd (read_is_short (held from.env) y.text told y.read long)
+  one_grid r u (inr (inl (is, long))) (inr (inl (also, too))) = is ∙ sym also
+  one_grid r u (inr (inl (is, long))) (inr (inr (end, also, y))) =
+      absurd (read_is_short (held from.env) y.text told y.read long)
+  one_grid r u (inr (inr (end, is, x))) (inl (g, also, y)) = absurd (off_grid_not_faulty end g x y)
+  one_grid r u (inr (inr (end, is, x))) (inr (inl (also, long))) =
+      absurd (read_is_short (held from.env) x.text told x.read long)
+  one_grid r u (inr (inr (end, is, x))) (inr (inr (other, also, y))) =
+      let text : y.text ≡ x.text = read_once (held from.env) y.text x.text told y.read x.read in
+      let own : HasGridEndOff from x.text other = subst (λ (t : List ℕ). HasGridEndOff from t other) text y.off in
+      is ∙ ap (λ (e : PathEnd). refusal.OffMap e) (clear.one_grid_end from x.text end other x.off own) ∙ sym also
 
-  not_grid : (w : GridWorld) (r : Refusal) → IsBadGrid held env r → ReadsGrid held env w → ⊥
+  not_grid : (w : GridWorld) (r : Refusal) → IsBadGrid held from r → ReadsGrid held from w → ⊥
   not_grid w r (inl (f, is, x)) says =
-      let text : says.text ≡ x.text = read_once (held env) says.text x.text told says.read x.read in
-      let own : IsGridText x.text w.env says.cells =
-      subst (λ (t : List ℕ). IsGridText t w.env says.cells) text says.stands in
-      clear.grid_fault x.text w.env says.cells f own x.faulty
-  not_grid w r (inr (is, long)) says = read_is_short (held env) says.text told says.read long
+      let text : says.text ≡ x.text = read_once (held from.env) says.text x.text told says.read x.read in
+      let own : IsGridFor from x.text w.env says.cells =
+      subst (λ (t : List ℕ). IsGridFor from t w.env says.cells) text says.stands in
+      clear.grid_fault from x.text w.env says.cells f own x.faulty
+  not_grid w r (inr (inr (end, is, x))) says =
+      let text : says.text ≡ x.text = read_once (held from.env) says.text x.text told says.read x.read in
+      let own : IsGridFor from x.text w.env says.cells =
+      subst (λ (t : List ℕ). IsGridFor from t w.env says.cells) text says.stands in
+      clear.grid_end_off from x.text w.env says.cells end own x.off
+  not_grid w r (inr (inl (is, long))) says = read_is_short (held from.env) says.text told says.read long
 
   -- those of a grid do
-  pub grids_call_for_one : CallForOne held (grid_files env) (IsBadGrid held env)
-  grids_call_for_one = record { cause = λ Failed r. grid_cause held Failed env r; one = one_grid; none = not_grid }
+  pub grids_call_for_one : CallForOne held (grid_files from) (IsBadGrid held from)
+  grids_call_for_one = record { cause = λ Failed r. grid_cause held Failed from r; one = one_grid; none = not_grid }
 
 module _ (clear : TextsAreClear) (held : Told) {W : Type 0} (f : WorldFiles W) (Alike : W → W → Type 0)
     (stand : StandForOne held f Alike) (Bad : Refusal → Type 0) (calls : CallForOne held f Bad)

@@ -14,9 +14,9 @@ use Rattle.sbpl_promises.specs.Published.{Entry}
 use Rattle.sbpl_promises.specs.RunPromises.{RunPromises}
 use Rattle.sbpl_laws.proofs.OneEnding.{OneMap}
 use Rattle.sbpl_laws.proofs.Runs.{run_changes_faulty, run_changes_long, run_checked, run_complete, run_cut}
-use Rattle.sbpl_laws.proofs.Runs.{run_demonstrated, run_done, run_environment_faulty, run_environment_long}
+use Rattle.sbpl_laws.proofs.Runs.{run_demonstrated, run_done, run_end_off, run_environment_faulty, run_environment_long}
 use Rattle.sbpl_laws.proofs.Runs.{run_faulted, run_flawed, run_grid_changes_faulty, run_grid_changes_long}
-use Rattle.sbpl_laws.proofs.Runs.{run_grid_checked, run_grid_complete, run_grid_faulty, run_grid_labels_long}
+use Rattle.sbpl_laws.proofs.Runs.{run_grid_checked, run_grid_complete, run_grid_end_off, run_grid_faulty, run_grid_labels_long}
 use Rattle.sbpl_laws.proofs.Runs.{run_grid_long, run_labels_long, run_no_job, run_primitives_faulty}
 use Rattle.sbpl_laws.proofs.Runs.{run_primitives_long, run_published, run_refused, run_status, run_stopped}
 use Rattle.sbpl_laws.proofs.Runs.{run_too_dear, run_too_wide, run_words, run_write}
@@ -35,15 +35,20 @@ promised stand clear sections one_map graphs one first one_grid first_grid named
       fault = run_faulted before after old new named status ends;
       words = run_words before after old new named status ends;
       environment =
-          λ at. run_refused before after old new named status 3 ends at (omega arith, omega arith, λ h. omega arith);
+          λ at. run_refused before after old new named status 3 ends at (omega arith, omega arith, λ h. omega arith)
+          (λ h. omega arith);
       primitives =
-          λ at. run_refused before after old new named status 4 ends at (omega arith, omega arith, λ h. omega arith);
+          λ at. run_refused before after old new named status 4 ends at (omega arith, omega arith, λ h. omega arith)
+          (λ h. omega arith);
       changes =
-          λ at. run_refused before after old new named status 5 ends at (omega arith, omega arith, λ h. omega arith);
+          λ at. run_refused before after old new named status 5 ends at (omega arith, omega arith, λ h. omega arith)
+          (λ h. omega arith);
       unread =
-          λ at. run_refused before after old new named status 6 ends at (omega arith, omega arith, λ h. omega arith);
+          λ at. run_refused before after old new named status 6 ends at (omega arith, omega arith, λ h. omega arith)
+          (λ h. omega arith);
       too_long =
-          λ at. run_refused before after old new named status 8 ends at (omega arith, omega arith, λ h. omega arith);
+          λ at. run_refused before after old new named status 8 ends at (omega arith, omega arith, λ h. omega arith)
+          (λ h. omega arith);
       write = run_write before after old new named status ends;
       cut = run_cut before after old new named status ends;
       memory = run_stopped before after old new named status ends;
@@ -63,9 +68,13 @@ promised stand clear sections one_map graphs one first one_grid first_grid named
           run_too_dear before after old new named status clear ends j from e ps i names is;
       changes_long = run_changes_long before after old new named status clear ends;
       changes_faulty = run_changes_faulty before after old new named status clear ends;
+      end_off = λ from end (j, names, is).
+          run_end_off before after old new named status clear ends j from end names is;
       grid_faulty =
-          λ env f (j, names, is). run_grid_faulty before after old new named status clear ends j env f names is;
-      grid_long = λ env (j, names, is). run_grid_long before after old new named status clear ends j env names is;
+          λ from f (j, names, is). run_grid_faulty before after old new named status clear ends j from f names is;
+      grid_end_off = λ from end (j, names, is).
+          run_grid_end_off before after old new named status clear ends j from end names is;
+      grid_long = λ from (j, names, is). run_grid_long before after old new named status clear ends j from names is;
       grid_changes_long = run_grid_changes_long before after old new named status clear ends;
       grid_changes_faulty = run_grid_changes_faulty before after old new named status clear ends;
       grid_complete = run_grid_complete before after old new named status clear ends;

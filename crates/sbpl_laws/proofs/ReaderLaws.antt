@@ -1,5 +1,10 @@
 -- The readers' laws of texts, as they are used of the files of a job.
-use Rattle.std.proofs.Common.{◌≡◌, ℕ, ℤ, List, Option, Some, None, sym, ◌∙◌}
+use Rattle.std.proofs.Common.{◌≡◌, ℕ, ℤ, List, Option, Some, None, IfSome, refl, sym, ap, subst, ◌∙◌}
+use Rattle.sbpl_promises.specs.sbpl_cfg.Environment.{IsPoseOnMap}
+use Rattle.sbpl_promises.specs.sbpl_job.declared.job.GridSources.{GridSources}
+use Rattle.sbpl_promises.specs.sbpl_job.declared.job.Sources.{Sources}
+use Rattle.sbpl_promises.specs.sbpl_report.declared.refusal.PathEnd.{PathEnd}
+use Rattle.sbpl_promises.specs.sbpl_report.declared.refusal.PathEnd.TheVariants as path_end
 use Rattle.sbpl_promises.specs.sbpl_cfg.declared.fault.EnvFault.{EnvFault}
 use Rattle.sbpl_promises.specs.sbpl_cfg.Environment.{Environment}
 use Rattle.sbpl_promises.specs.sbpl_cfg.Text as environments
@@ -15,8 +20,45 @@ use Rattle.sbpl_promises.specs.sbpl_nav2d.Environment.{NavEnvironment}
 use Rattle.sbpl_promises.specs.sbpl_nav2d.Text as grids
 use Rattle.sbpl_promises.specs.sbpl_cfg.declared.pose.Place.{Place}
 use Rattle.sbpl_promises.specs.Clear.{TextsAreClear}
-use Rattle.sbpl_promises.specs.Texts.{HasChangeFault, IsChangeText, Scope}
+use Rattle.sbpl_promises.specs.Texts.{AreOn, HasChangeFault, IsChangeText, IsEnvironmentFor, IsFirstOff, IsGridFor, IsOff, IsOnGrid, Scope}
+use Rattle.sbpl_promises.specs.Texts.{posed, posed_on_grid}
 use Rattle.sbpl_promises.specs.declared.updates.Updates.{Updates}
+
+-- ---- the start and the goal of words in place of a file's
+
+-- an end that is given is on the map, or off it
+given_off : {P : Type 0} {IsOn : P → Type 0} {given : Option P} → IfSome given IsOn → IsOff IsOn given → ⊥
+given_off {IsOn = IsOn} on off = off.off (subst (λ o. IfSome o IsOn) off.is on)
+
+on_and_off : {P : Type 0} (IsOn : P → Type 0) (start goal : Option P) (end : PathEnd) → AreOn IsOn start goal
+    → IsFirstOff IsOn start goal end → ⊥
+on_and_off IsOn start goal path_end.Start on off = given_off on.0 off
+on_and_off IsOn start goal path_end.Goal on off = given_off on.1 off.1
+
+-- one of them is the first that is off
+one_off : {P : Type 0} (IsOn : P → Type 0) (start goal : Option P) (end other : PathEnd)
+    → IsFirstOff IsOn start goal end → IsFirstOff IsOn start goal other → end ≡ other
+one_off IsOn start goal path_end.Start path_end.Start off also = refl
+one_off IsOn start goal path_end.Start path_end.Goal off also = absurd (given_off also.0 off)
+one_off IsOn start goal path_end.Goal path_end.Start off also = absurd (given_off off.0 also)
+one_off IsOn start goal path_end.Goal path_end.Goal off also = refl
+
+-- one text, with the same words, stands for one environment
+environment_once : {text : List ℕ}
+    → ((e d : Environment) (cells others : List ℕ) → environments.IsTextOf text e cells
+    → environments.IsTextOf text d others → (e ≡ d) × (cells ≡ others))
+    → (from : Sources) (e d : Environment) (cells others : List ℕ) → IsEnvironmentFor from text e cells
+    → IsEnvironmentFor from text d others → (e ≡ d) × (cells ≡ others)
+environment_once one from e d cells others (file, p, on, is) (other, q, also, same) =
+    let both = one file other cells others p q in (is ∙ ap (posed from) both.0 ∙ sym same, both.1)
+
+grid_once : {text : List ℕ}
+    → ((e d : NavEnvironment) (cells others : List ℕ) → grids.IsTextOf text e cells
+    → grids.IsTextOf text d others → (e ≡ d) × (cells ≡ others))
+    → (from : GridSources) (e d : NavEnvironment) (cells others : List ℕ) → IsGridFor from text e cells
+    → IsGridFor from text d others → (e ≡ d) × (cells ≡ others)
+grid_once one from e d cells others (file, p, on, is) (other, q, also, same) =
+    let both = one file other cells others p q in (is ∙ ap (posed_on_grid from) both.0 ∙ sym same, both.1)
 
 pub texts_clear :
     ((text : List ℕ) (e d : Environment) (cells others : List ℕ) → environments.IsTextOf text e cells
@@ -38,14 +80,28 @@ pub texts_clear :
     → TextsAreClear
 texts_clear one not_both one_fault one_list not_both_lists one_list_fault one_grid not_both_grids one_grid_fault
     updates_once not_both_updates updates_once_fault = record {
-      environment = one;
-      environment_fault = λ text e cells f p q. not_both text f (e, cells, p) q;
+      environment = λ from text. environment_once (one text) from;
+      environment_fault = λ from text e cells f (file, p, on, is) q. not_both text f (file, cells, p) q;
+      end_off = λ from text e cells end (file, p, on, is) (other, others, q, off).
+          on_and_off _ _ _ end on (subst (λ d. IsFirstOff (IsPoseOnMap d) from.start from.goal end)
+          (one text other file others cells q p).0 off);
+      end_fault = λ from text end f (file, cells, p, off) q. not_both text f (file, cells, p) q;
+      one_end = λ from text end other (file, cells, p, off) (file', cells', q, also).
+          one_off _ _ _ end other off (subst (λ d. IsFirstOff (IsPoseOnMap d) from.start from.goal other)
+          (one text file' file cells' cells q p).0 also);
       one_environment_fault = one_fault;
       primitives = λ text e ps qs p q. one_list text ps qs p.stands q.stands;
       primitive_fault = λ text e ps f p q. not_both_lists e.cell e.headings text f (ps, p.cell, p.headings, p.stands) q;
       one_primitive_fault = λ text e f g p q. one_list_fault e.cell e.headings text f g p q;
-      grid = one_grid;
-      grid_fault = λ text e cells f p q. not_both_grids text f (e, cells, p) q;
+      grid = λ from text. grid_once (one_grid text) from;
+      grid_fault = λ from text e cells f (file, p, on, is) q. not_both_grids text f (file, cells, p) q;
+      grid_end_off = λ from text e cells end (file, p, on, is) (other, others, q, off).
+          on_and_off _ _ _ end on (subst (λ d. IsFirstOff (IsOnGrid d) from.start from.goal end)
+          (one_grid text other file others cells q p).0 off);
+      grid_end_fault = λ from text end f (file, cells, p, off) q. not_both_grids text f (file, cells, p) q;
+      one_grid_end = λ from text end other (file, cells, p, off) (file', cells', q, also).
+          one_off _ _ _ end other off (subst (λ d. IsFirstOff (IsOnGrid d) from.start from.goal other)
+          (one_grid text file' file cells' cells q p).0 also);
       one_grid_fault = one_grid_fault;
       changes = updates_once;
       change_fault = not_both_updates;

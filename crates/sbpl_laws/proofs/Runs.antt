@@ -28,6 +28,8 @@ use Rattle.sbpl_promises.specs.LatticeSite.{lattice_site}
 use Rattle.sbpl_laws.proofs.AlikeSites.{goes_alike}
 use Rattle.sbpl_laws.proofs.LatticeAlike.{lattices_alike}
 use Rattle.sbpl_promises.specs.sbpl_report.declared.record.PlanRecord.{PlanRecord}
+use Rattle.sbpl_promises.specs.sbpl_job.declared.job.GridSources.{GridSources}
+use Rattle.sbpl_promises.specs.sbpl_report.declared.refusal.PathEnd.{PathEnd}
 use Rattle.sbpl_promises.specs.sbpl_report.declared.refusal.Refusal.{Refusal}
 use Rattle.sbpl_promises.specs.sbpl_report.declared.refusal.Refusal.TheVariants as refusal
 use Rattle.sbpl_promises.specs.Causes.{AreDemonstrated, ArePlanned, IsCause, IsEarlyCause, IsJobCause, IsTooLong}
@@ -53,7 +55,7 @@ use Rattle.sbpl_promises.specs.Promises.{IsCutShort, IsDone, IsFaultFound, IsFla
 use Rattle.sbpl_promises.specs.Promises.{IsOrUnwritten, IsRefused, IsStatus, IsWrittenFor, MayBeWritten, SomeRose}
 use Rattle.sbpl_promises.specs.Promises.{Tells, TellsChangeFault, TellsUpdates, TellsEnvironment, TellsEnvironmentFault}
 use Rattle.sbpl_promises.specs.Promises.{TellsGrid, TellsGridFault, TellsPrimitiveFault, TellsPrimitives, TellsTooMuch}
-use Rattle.sbpl_promises.specs.Promises.{TellsWorld, by_job, by_memory, by_words, changes_of, grid_of, sources_of}
+use Rattle.sbpl_promises.specs.Promises.{TellsEndOff, TellsGridEndOff, TellsWorld, by_job, by_memory, by_words, changes_of, grid_of, sources_of}
 use Rattle.sbpl_promises.specs.sbpl_report.Traces.{trace_text}
 use Rattle.sbpl_promises.specs.Writing.{AreAppended, DeskState, EndsAs, IsCutAt, IsNamed, IsOutput}
 use Rattle.sbpl_promises.specs.Writing.{IsOutputOf, RunsOutAt, Names, ReadFailed, StaysBut, Told, Write}
@@ -68,7 +70,7 @@ use Rattle.sbpl_promises.specs.sbpl_job.declared.job.NavCheckJob.{NavCheckJob}
 use Rattle.sbpl_laws.proofs.Converse.{HasRead, IsReadFrom, all_good, by_intent, changes_faulty, changes_faulty_none}
 use Rattle.sbpl_laws.proofs.Converse.{changes_long, changes_long_none, changes_world, environment_faulty}
 use Rattle.sbpl_laws.proofs.Converse.{environment_faulty_none, environment_long, environment_long_none, good_files}
-use Rattle.sbpl_laws.proofs.Converse.{good_grid, grid_faulty, grid_faulty_none, grid_long, grid_long_none, grid_reads}
+use Rattle.sbpl_laws.proofs.Converse.{end_off, end_off_none, good_grid, grid_end_off, grid_end_off_none, grid_faulty, grid_faulty_none, grid_long, grid_long_none, grid_reads}
 use Rattle.sbpl_laws.proofs.Converse.{labels_refused, lattice_reads, no_memory, primitives_faulty}
 use Rattle.sbpl_laws.proofs.Converse.{primitives_faulty_none, primitives_good, primitives_long, primitives_long_none}
 use Rattle.sbpl_laws.proofs.Converse.{same_updates, same_environment, same_grid, same_primitives, same_scope, told_is}
@@ -91,17 +93,17 @@ intent_is_status (Checked goal os (Some _)) = refl
 intent_is_status (Demonstrated w count records true log broken) = refl
 intent_is_status _ = refl
 
--- what a job means to do has neither the status of words that name no job nor that of a failed write
-not_intent : (i : Intent) → (intent_status i ≢ 2) × (intent_status i ≢ 7)
-not_intent (Refused (refusal.Environment x)) = (λ h. omega arith, λ h. omega arith)
-not_intent (Refused (refusal.Grid x)) = (λ h. omega arith, λ h. omega arith)
-not_intent (Refused _) = (λ h. omega arith, λ h. omega arith)
-not_intent (Planned records true log broken) = (λ h. omega arith, λ h. omega arith)
-not_intent (Checked goal os None) = (λ h. omega arith, λ h. omega arith)
-not_intent (Checked goal os (Some (section.Flaw x))) = (λ h. omega arith, λ h. omega arith)
-not_intent (Checked goal os (Some _)) = (λ h. omega arith, λ h. omega arith)
-not_intent (Demonstrated w count records true log broken) = (λ h. omega arith, λ h. omega arith)
-not_intent _ = (λ h. omega arith, λ h. omega arith)
+-- what a job means to do does not have the status of a failed write
+not_unwritten : (i : Intent) → intent_status i ≢ 7
+not_unwritten (Refused (refusal.Environment x)) = λ h. omega arith
+not_unwritten (Refused (refusal.Grid x)) = λ h. omega arith
+not_unwritten (Refused _) = λ h. omega arith
+not_unwritten (Planned records true log broken) = λ h. omega arith
+not_unwritten (Checked goal os None) = λ h. omega arith
+not_unwritten (Checked goal os (Some (section.Flaw x))) = λ h. omega arith
+not_unwritten (Checked goal os (Some _)) = λ h. omega arith
+not_unwritten (Demonstrated w count records true log broken) = λ h. omega arith
+not_unwritten _ = λ h. omega arith
 
 -- ---- writes go under names that the job may write under
 
@@ -234,8 +236,8 @@ module _ (before after : DeskState) (old new : List Entry) where
   done_by (job.Nav n) (Planned records true log broken) gives begins zero made = record {
     records = records;
     planned =
-        subst (λ (l : List Entry). ArePlanned held (grid_files n.env) n.changes n.search n.outputs records true l [])
-        begins (subst (λ (b : List Found). ArePlanned held (grid_files n.env) n.changes n.search n.outputs records true
+        subst (λ (l : List Entry). ArePlanned held (grid_files n.sources) n.changes n.search n.outputs records true l [])
+        begins (subst (λ (b : List Found). ArePlanned held (grid_files n.sources) n.changes n.search n.outputs records true
         log b) (gives.plans.none_broken refl) gives);
     report = made;
   }
@@ -263,9 +265,9 @@ module _ (before after : DeskState) (old new : List Entry) where
 
   -- a status that may be that of a refusal, and is not that of a failed write
   abbrev pub IsRefusing : ℕ → Type 0
-  IsRefusing s = (3 ≤ s) × (s ≤ 8) × (s ≢ 7)
+  IsRefusing s = (2 ≤ s) × (s ≤ 8) × (s ≢ 7)
 
-  refused_by : (j : Job) (i : Intent) (status : ℕ) → GivesIntent held Failed j i → intent_status i ≡ status → 3 ≤ status
+  refused_by : (j : Job) (i : Intent) (status : ℕ) → GivesIntent held Failed j i → intent_status i ≡ status → 2 ≤ status
       → status ≤ 8 → AreAppended before after (writes_of j i) → StaysBut (IsWrittenFor j i) before.written after.written
       → IsRefused before after status j
   refused_by j (Refused r) status gives is low high made others =
@@ -339,7 +341,7 @@ module _ (before after : DeskState) (old new : List Entry) where
 
   job_cut : (j : Job) (status : ℕ) → EndsJob before after old new j status → status ≡ 7 → IsCutShort before after old j
   job_cut j status e seven = elim e.ends [
-    | inl (is, made) ↦ absurd ((not_intent e.intent).1 (sym is ∙ seven))
+    | inl (is, made) ↦ absurd (not_unwritten e.intent (sym is ∙ seven))
     | inr (inl (is, cut)) ↦
         record { intent = e.intent; gives = e.gives; begins = e.begins; cut = cut; others = e.others }
     | inr (inr (is, stopped)) ↦ absurd (omega arith)
@@ -362,13 +364,6 @@ module _ (before after : DeskState) (old new : List Entry) where
     | inr (inl (is, cut)) ↦ absurd (omega arith)
     | inr (inr (is, stopped)) ↦
         record { intent = e.intent; gives = e.gives; begins = e.begins; stopped = stopped; others = e.others }
-  ]
-
-  job_not_words : (j : Job) (status : ℕ) → EndsJob before after old new j status → status ≡ 2 → ⊥
-  job_not_words j status e two = elim e.ends [
-    | inl (is, made) ↦ (not_intent e.intent).0 (sym is ∙ two)
-    | inr (inl (is, cut)) ↦ omega arith
-    | inr (inr (is, stopped)) ↦ omega arith
   ]
 
   -- a job's status is that of what it means to do, unless a write failed or memory ran out
@@ -410,19 +405,20 @@ module _ (before after : DeskState) (old new : List Entry) where
     run_done (by_memory at same stays) zero = absurd (omega arith)
 
     pub run_words : EndsRun named before after old new status → status ≡ 2
-        → (named ≡ None) × AreAppended before after words_writes
-    run_words (by_job j is e) two = absurd (job_not_words j status e two)
-    run_words (by_words is (inl (at, made)) stays) two = (is, made)
+        → ((named ≡ None) × AreAppended before after words_writes) ⊎ AtJob named (IsRefused before after 2)
+    run_words (by_job j is e) two =
+        inr (j, is, job_refused j status 2 e two (omega arith, omega arith, λ h. omega arith))
+    run_words (by_words is (inl (at, made)) stays) two = inl (is, made)
     run_words (by_words is (inr (inl (at, cut))) stays) two = absurd (omega arith)
     run_words (by_words is (inr (inr (at, stopped))) stays) two = absurd (omega arith)
     run_words (by_memory at same stays) two = absurd (omega arith)
 
     pub run_refused : (wanted : ℕ) → EndsRun named before after old new status → status ≡ wanted → IsRefusing wanted
-        → AtJob named (IsRefused before after wanted)
-    run_refused wanted (by_job j is e) at other = (j, is, job_refused j status wanted e at other)
-    run_refused wanted (by_words is ends stays) at (low, high, seven) =
-        absurd (not_by_words ends (λ h. omega arith) (λ h. seven (sym at ∙ h)) (λ h. omega arith))
-    run_refused wanted (by_memory nine same stays) at (low, high, seven) = absurd (omega arith)
+        → wanted ≢ 2 → AtJob named (IsRefused before after wanted)
+    run_refused wanted (by_job j is e) at other files = (j, is, job_refused j status wanted e at other)
+    run_refused wanted (by_words is ends stays) at (low, high, seven) files =
+        absurd (not_by_words ends (λ h. files (sym at ∙ h)) (λ h. seven (sym at ∙ h)) (λ h. omega arith))
+    run_refused wanted (by_memory nine same stays) at (low, high, seven) files = absurd (omega arith)
 
     pub run_flawed : EndsRun named before after old new status → status ≡ 1 → AtJob named (IsFlawFound before after)
     run_flawed (by_job j is e) one = (j, is, job_flawed j status e one)
@@ -533,6 +529,13 @@ module _ (before after : DeskState) (old new : List Entry) where
         no_lattice j from 8 ends names is (environment_long clear held Failed from much)
         (environment_long_none clear held Failed from much)
 
+    pub run_end_off : TextsAreClear → EndsRun named before after old new status
+        → (j : Job) (from : Sources) (end : PathEnd) → named ≡ Some j → sources_of j ≡ Some from
+        → TellsEndOff held from end → IsOrFailed 2 status
+    run_end_off clear ends j from end names is tells =
+        no_lattice j from 2 ends names is (end_off clear held Failed from end tells)
+        (end_off_none clear held Failed from end tells)
+
     pub run_primitives_long : TextsAreClear → EndsRun named before after old new status
         → (j : Job) (from : Sources) (env : Environment) → named ≡ Some j → sources_of j ≡ Some from
         → TellsEnvironment held from env → TellsTooMuch (held from.prims) → IsOrFailed 8 status
@@ -618,66 +621,73 @@ module _ (before after : DeskState) (old new : List Entry) where
     -- ---- the same on a grid
 
     pub run_grid_faulty : TextsAreClear → EndsRun named before after old new status
-        → (j : Job) (env : List ℕ) (f : EnvFault) → named ≡ Some j → grid_of j ≡ Some env
-        → TellsGridFault held env f → IsOrFailed 3 status
-    run_grid_faulty clear ends j env f names is tells =
-        by_none j (grid_files env) (changes_of j) 3 (grid_reads j env is) ends names
-        (grid_faulty clear held Failed env f tells) (grid_faulty_none clear held Failed env f tells)
+        → (j : Job) (from : GridSources) (f : EnvFault) → named ≡ Some j → grid_of j ≡ Some from
+        → TellsGridFault held from f → IsOrFailed 3 status
+    run_grid_faulty clear ends j from f names is tells =
+        by_none j (grid_files from) (changes_of j) 3 (grid_reads j from is) ends names
+        (grid_faulty clear held Failed from f tells) (grid_faulty_none clear held Failed from f tells)
 
-    pub run_grid_long : TextsAreClear → EndsRun named before after old new status → (j : Job) (env : List ℕ)
-        → named ≡ Some j → grid_of j ≡ Some env → TellsTooMuch (held env) → IsOrFailed 8 status
-    run_grid_long clear ends j env names is much =
-        by_none j (grid_files env) (changes_of j) 8 (grid_reads j env is) ends names
-        (grid_long clear held Failed env much) (grid_long_none clear held Failed env much)
+    pub run_grid_end_off : TextsAreClear → EndsRun named before after old new status
+        → (j : Job) (from : GridSources) (end : PathEnd) → named ≡ Some j → grid_of j ≡ Some from
+        → TellsGridEndOff held from end → IsOrFailed 2 status
+    run_grid_end_off clear ends j from end names is tells =
+        by_none j (grid_files from) (changes_of j) 2 (grid_reads j from is) ends names
+        (grid_end_off clear held Failed from end tells) (grid_end_off_none clear held Failed from end tells)
+
+    pub run_grid_long : TextsAreClear → EndsRun named before after old new status → (j : Job) (from : GridSources)
+        → named ≡ Some j → grid_of j ≡ Some from → TellsTooMuch (held from.env) → IsOrFailed 8 status
+    run_grid_long clear ends j from names is much =
+        by_none j (grid_files from) (changes_of j) 8 (grid_reads j from is) ends names
+        (grid_long clear held Failed from much) (grid_long_none clear held Failed from much)
 
     pub run_grid_changes_long : TextsAreClear → EndsRun named before after old new status
-        → (j : Job) (env : List ℕ) (w : GridWorld) (name : List ℕ) → named ≡ Some j → grid_of j ≡ Some env
-        → TellsGrid held env w → changes_of j ≡ Some name → TellsTooMuch (held name) → IsOrFailed 8 status
-    run_grid_changes_long clear ends j env w name names is tells file much =
-        by_early j (grid_files env) (changes_of j) 8 (grid_reads j env is) ends names
-        (changes_long clear held Failed (grid_files env) (changes_of j) (grid_scope w)
-        (good_grid clear held Failed env w tells) name file much)
-        (changes_long_none clear held Failed (grid_files env) (changes_of j) (grid_scope w)
-        (good_grid clear held Failed env w tells) name file much)
+        → (j : Job) (from : GridSources) (w : GridWorld) (name : List ℕ) → named ≡ Some j → grid_of j ≡ Some from
+        → TellsGrid held from w → changes_of j ≡ Some name → TellsTooMuch (held name) → IsOrFailed 8 status
+    run_grid_changes_long clear ends j from w name names is tells file much =
+        by_early j (grid_files from) (changes_of j) 8 (grid_reads j from is) ends names
+        (changes_long clear held Failed (grid_files from) (changes_of j) (grid_scope w)
+        (good_grid clear held Failed from w tells) name file much)
+        (changes_long_none clear held Failed (grid_files from) (changes_of j) (grid_scope w)
+        (good_grid clear held Failed from w tells) name file much)
 
     pub run_grid_changes_faulty : TextsAreClear → EndsRun named before after old new status
-        → (j : Job) (env : List ℕ) (w : GridWorld) (f : ChangeFault) → named ≡ Some j → grid_of j ≡ Some env
-        → TellsGrid held env w → TellsChangeFault held (changes_of j) (grid_scope w) f → IsOrFailed 5 status
-    run_grid_changes_faulty clear ends j env w f names is tells faulty =
-        by_early j (grid_files env) (changes_of j) 5 (grid_reads j env is) ends names
-        (changes_faulty clear held Failed (grid_files env) (changes_of j) (grid_scope w)
-        (good_grid clear held Failed env w tells) f faulty)
-        (changes_faulty_none clear held Failed (grid_files env) (changes_of j) (grid_scope w)
-        (good_grid clear held Failed env w tells) f faulty)
+        → (j : Job) (from : GridSources) (w : GridWorld) (f : ChangeFault) → named ≡ Some j → grid_of j ≡ Some from
+        → TellsGrid held from w → TellsChangeFault held (changes_of j) (grid_scope w) f → IsOrFailed 5 status
+    run_grid_changes_faulty clear ends j from w f names is tells faulty =
+        by_early j (grid_files from) (changes_of j) 5 (grid_reads j from is) ends names
+        (changes_faulty clear held Failed (grid_files from) (changes_of j) (grid_scope w)
+        (good_grid clear held Failed from w tells) f faulty)
+        (changes_faulty_none clear held Failed (grid_files from) (changes_of j) (grid_scope w)
+        (good_grid clear held Failed from w tells) f faulty)
 
     pub run_grid_complete : TextsAreClear → EndsRun named before after old new status
-        → (j : Job) (env : List ℕ) (w : GridWorld) (c : Updates) → named ≡ Some j → grid_of j ≡ Some env
-        → TellsGrid held env w → TellsUpdates held (changes_of j) (grid_scope w) c → IsNoCheck j → IsOrFailed 0 status
-    run_grid_complete clear ends j env w c names is tells told plain =
+        → (j : Job) (from : GridSources) (w : GridWorld) (c : Updates) → named ≡ Some j → grid_of j ≡ Some from
+        → TellsGrid held from w → TellsUpdates held (changes_of j) (grid_scope w) c → IsNoCheck j → IsOrFailed 0 status
+    run_grid_complete clear ends j from w c names is tells told plain =
         by_each j 0 ends names (λ i gives. served j i plain by_cause gives)
       where
         by_cause : (r : Refusal) → IsJobCause held Failed j r → IsOrFailed 0 (refusal_status r)
-        by_cause r cause = elim ((grid_reads j env is).cause held Failed r cause) [
+        by_cause r cause = elim ((grid_reads j from is).cause held Failed r cause) [
           | inl early ↦
-              all_good clear held Failed (grid_files env) (changes_of j) (grid_scope w)
-              (good_grid clear held Failed env w tells) c 0 told r early
+              all_good clear held Failed (grid_files from) (changes_of j) (grid_scope w)
+              (good_grid clear held Failed from w tells) c 0 told r early
           | inr (updates, checks) ↦ absurd (checks plain)
         ]
 
     -- where the file stands for a world and map updates, a check is refused for its file of labels alone
     nav_check_refused : TextsAreClear → (n : NavCheckJob) (w : GridWorld) (updates : Updates) (wanted : ℕ)
-        → TellsGrid held n.env w → TellsUpdates held n.changes (grid_scope w) updates
+        → TellsGrid held n.sources w → TellsUpdates held n.changes (grid_scope w) updates
         → (IsTooLong (held n.labels) → IsOrFailed wanted 8) → (r : Refusal) → IsJobCause held Failed (job.NavCheck n) r
         → IsOrFailed wanted (refusal_status r)
     nav_check_refused clear n w updates wanted tells told long r (inl cause) =
-        all_good clear held Failed (grid_files n.env) n.changes (grid_scope w)
-        (good_grid clear held Failed n.env w tells) updates wanted told r cause
+        all_good clear held Failed (grid_files n.sources) n.changes (grid_scope w)
+        (good_grid clear held Failed n.sources w tells) updates wanted told r cause
     nav_check_refused clear n w updates wanted tells told long r (inr cause) =
-        labels_refused held Failed (grid_files n.env) n.changes n.labels wanted r long cause
+        labels_refused held Failed (grid_files n.sources) n.changes n.labels wanted r long cause
 
     nav_checked_alike : TextsAreClear → SectionsAreClear → OneMap
         → (n : NavCheckJob) (w : GridWorld) (updates : Updates) (text : List ℕ) (goals : ℕ → ℕ) (os : List Outcome)
-        (end : Option SectionStop) → end ≢ Some section.NoMemory → TellsGrid held n.env w
+        (end : Option SectionStop) → end ≢ Some section.NoMemory → TellsGrid held n.sources w
         → TellsUpdates held n.changes (grid_scope w) updates
         → Tells (held n.labels) text
         → IsCheckedIn IsHolding grid_site w updates text goals os end
@@ -690,7 +700,7 @@ module _ (before after : DeskState) (old new : List Entry) where
         gives = no_memory (checked_status end)
     nav_checked_alike clear sections one n w updates text goals os end some tells told held_text is refused
         (Checked goal' os' end') gives =
-        let near : gives.world ≡ w = same_grid clear held Failed n.env w gives.world tells gives.says in
+        let near : gives.world ≡ w = same_grid clear held Failed n.sources w gives.world tells gives.says in
         let same : gives.updates ≡ updates =
         same_updates clear held n.changes (grid_scope w) updates gives.updates told
         (subst (λ (v : GridWorld). ReadsUpdates held n.changes (grid_scope v) gives.updates) near gives.changes_say) in
@@ -703,7 +713,7 @@ module _ (before after : DeskState) (old new : List Entry) where
 
     pub run_grid_checked : TextsAreClear → SectionsAreClear → OneMap → EndsRun named before after old new status
         → (n : NavCheckJob) (w : GridWorld) (updates : Updates) (text : List ℕ) (goals : ℕ → ℕ) (os : List Outcome)
-        (end : Option SectionStop) → named ≡ Some (job.NavCheck n) → TellsGrid held n.env w
+        (end : Option SectionStop) → named ≡ Some (job.NavCheck n) → TellsGrid held n.sources w
         → TellsUpdates held n.changes (grid_scope w) updates → Tells (held n.labels) text
         → IsCheckedIn IsHolding grid_site w updates text goals os end
         → end ≢ Some section.NoMemory → IsOrFailed (checked_status end) status
@@ -715,7 +725,7 @@ module _ (before after : DeskState) (old new : List Entry) where
         (nav_checked_alike clear sections one n w updates text goals os end some tells told held_text is refused)
 
     pub run_grid_labels_long : TextsAreClear → EndsRun named before after old new status
-        → (n : NavCheckJob) (w : GridWorld) (updates : Updates) → named ≡ Some (job.NavCheck n) → TellsGrid held n.env w
+        → (n : NavCheckJob) (w : GridWorld) (updates : Updates) → named ≡ Some (job.NavCheck n) → TellsGrid held n.sources w
         → TellsUpdates held n.changes (grid_scope w) updates → TellsTooMuch (held n.labels) → IsOrFailed 8 status
     run_grid_labels_long clear ends n w updates names tells told much = by_each (job.NavCheck n) 8 ends names long_by
       where

@@ -6,6 +6,7 @@ use Rattle.sbpl_promises.specs.sbpl_map.CellMap.{CellMap}
 use Rattle.sbpl_promises.specs.sbpl_cost.World.{World}
 use Rattle.sbpl_promises.specs.sbpl_job.declared.job.Outputs.{Outputs}
 use Rattle.sbpl_promises.specs.sbpl_job.declared.job.SearchJob.{SearchJob}
+use Rattle.sbpl_promises.specs.sbpl_job.declared.job.GridSources.{GridSources}
 use Rattle.sbpl_promises.specs.sbpl_job.declared.job.Sources.{Sources}
 use Rattle.sbpl_promises.specs.sbpl_report.declared.record.PlanRecord.{PlanRecord}
 use Rattle.sbpl_promises.specs.Asked.{is_determined}
@@ -17,7 +18,7 @@ use Rattle.sbpl_promises.specs.sbpl_plan.declared.found.Found.{Found}
 use Rattle.sbpl_promises.specs.Headline.{ArePlans}
 use Rattle.sbpl_promises.specs.WorldFiles.{WorldFiles}
 use Rattle.sbpl_promises.specs.Published.{Entry}
-use Rattle.sbpl_promises.specs.Texts.{IsChangeText, IsEnvironmentText, IsGridText, IsPrimitiveText, Scope, scope_for}
+use Rattle.sbpl_promises.specs.Texts.{IsChangeText, IsEnvironmentFor, IsGridFor, IsPrimitiveText, Scope, scope_for}
 use Rattle.sbpl_promises.specs.Writing.{Told}
 use Rattle.sbpl_promises.specs.Clear.{TextsAreClear}
 use Rattle.sbpl_promises.specs.sbpl_nav2d.World.{GridWorld}
@@ -42,9 +43,9 @@ module _ (clear : TextsAreClear) (held : Told) where
   one_world from w v told_env told_prims x y =
       let text : y.environment.text ≡ x.environment.text =
       read_once (held from.env) y.environment.text x.environment.text told_env y.environment.read x.environment.read in
-      let stands : IsEnvironmentText x.environment.text v.env y.cells =
-      subst (λ (t : List ℕ). IsEnvironmentText t v.env y.cells) text y.environment.stands in
-      let envs = clear.environment x.environment.text v.env w.env y.cells x.cells stands x.environment.stands in
+      let stands : IsEnvironmentFor from x.environment.text v.env y.cells =
+      subst (λ (t : List ℕ). IsEnvironmentFor from t v.env y.cells) text y.environment.stands in
+      let envs = clear.environment from x.environment.text v.env w.env y.cells x.cells stands x.environment.stands in
       let file : y.primitives.text ≡ x.primitives.text =
       read_once (held from.prims) y.primitives.text x.primitives.text told_prims y.primitives.read x.primitives.read in
       let said : IsPrimitiveText v.env x.primitives.text v.prims =
@@ -132,13 +133,14 @@ lattices_stand_for_one clear held from moving told_env told_prims = record {
 }
 
 -- those of a grid stand for one world
-pub grids_stand_for_one : (clear : TextsAreClear) (held : Told) (env : List ℕ) → IsSome (held env)
-    → StandForOne held (grid_files env) AreOneGrid
-grids_stand_for_one clear held env told = record {
+pub grids_stand_for_one : (clear : TextsAreClear) (held : Told) (from : GridSources) → IsSome (held from.env)
+    → StandForOne held (grid_files from) AreOneGrid
+grids_stand_for_one clear held from told = record {
   one = λ w v x y.
-      let text : y.text ≡ x.text = read_once (held env) y.text x.text told y.read x.read in
-      let own : IsGridText x.text v.env y.cells = subst (λ (t : List ℕ). IsGridText t v.env y.cells) text y.stands in
-      let both = clear.grid x.text w.env v.env x.cells y.cells x.stands own in
+      let text : y.text ≡ x.text = read_once (held from.env) y.text x.text told y.read x.read in
+      let own : IsGridFor from x.text v.env y.cells =
+      subst (λ (t : List ℕ). IsGridFor from t v.env y.cells) text y.stands in
+      let both = clear.grid from x.text w.env v.env x.cells y.cells x.stands own in
       grid_by w v x.cells y.cells both.0 both.1 x.map y.map;
   scope = λ w v same. ap grid_scope (sym same);
 }

@@ -301,11 +301,11 @@ module _ (clear : TextsAreClear) (sections : SectionsAreClear) (one_map : OneMap
   -- ---- nav
 
   module _ (n : NavJob) (told : AreTold held (job.Nav n)) where
-    nav_stand : StandForOne held (grid_files n.env) AreOneGrid
-    nav_stand = grids_stand_for_one clear held n.env (told n.env (inl refl))
+    nav_stand : StandForOne held (grid_files n.sources) AreOneGrid
+    nav_stand = grids_stand_for_one clear held n.sources (told n.sources.env (inl refl))
 
-    nav_calls : CallForOne held (grid_files n.env) (IsBadGrid held n.env)
-    nav_calls = grids_call_for_one clear held n.env (told n.env (inl refl))
+    nav_calls : CallForOne held (grid_files n.sources) (IsBadGrid held n.sources)
+    nav_calls = grids_call_for_one clear held n.sources (told n.sources.env (inl refl))
 
     nav_changes : IfSome n.changes (λ name. IsSome (held name))
     nav_changes = told_name n.changes (λ name is. told name (inr is))
@@ -313,20 +313,20 @@ module _ (clear : TextsAreClear) (sections : SectionsAreClear) (one_map : OneMap
     nav_agrees : (i whole : Intent) → GivesIntent held Failed (job.Nav n) i → BeginsAfter i log
         → CallsFor held log (job.Nav n) whole → Agrees Failed (job.Nav n) i whole
     nav_agrees (Refused r) (Refused u) gives begins calls =
-        early_refusals (job.Nav n) (grid_files n.env) AreOneGrid nav_stand (IsBadGrid held n.env) nav_calls n.changes
+        early_refusals (job.Nav n) (grid_files n.sources) AreOneGrid nav_stand (IsBadGrid held n.sources) nav_calls n.changes
         nav_changes (λ name is. is) r u gives calls
     nav_agrees (Refused r) (Planned us all other also) gives begins calls =
-        refused_for_plans (job.Nav n) (grid_files n.env) AreOneGrid nav_stand (IsBadGrid held n.env) nav_calls n.changes
+        refused_for_plans (job.Nav n) (grid_files n.sources) AreOneGrid nav_stand (IsBadGrid held n.sources) nav_calls n.changes
         nav_changes (λ name is. is) r (Planned us all other also) n.search n.outputs us true log also gives calls.3
     nav_agrees (Planned rs all own broken) (Refused u) gives begins calls =
-        absurd (plans_not_refused (job.Nav n) (grid_files n.env) AreOneGrid nav_stand (IsBadGrid held n.env) nav_calls
+        absurd (plans_not_refused (job.Nav n) (grid_files n.sources) AreOneGrid nav_stand (IsBadGrid held n.sources) nav_calls
         n.changes nav_changes u n.search n.outputs rs all own broken calls gives)
     nav_agrees (Planned rs all own broken) (Planned us every other also) gives begins calls =
         subst (λ (b : Bool). Agrees Failed (job.Nav n) (Planned rs all own broken) (Planned us b other also))
         (sym calls.0)
-        (plans_agree (job.Nav n) (grid_files n.env) AreOneGrid nav_stand (IsBadGrid held n.env) nav_calls n.changes
+        (plans_agree (job.Nav n) (grid_files n.sources) AreOneGrid nav_stand (IsBadGrid held n.sources) nav_calls n.changes
         nav_changes one_grid first_grid n.search rs us all own other broken also calls.1
-        (subst (λ (l : List Entry). ArePlanned held (grid_files n.env) n.changes n.search n.outputs rs all l broken)
+        (subst (λ (l : List Entry). ArePlanned held (grid_files n.sources) n.changes n.search n.outputs rs all l broken)
         begins gives) calls.3)
     nav_agrees OutOfMemory whole gives begins calls = inr (inr (refl, (writes_of (job.Nav n) whole, refl)))
     nav_agrees (Refused r) _ gives begins calls = absurd calls
@@ -336,11 +336,11 @@ module _ (clear : TextsAreClear) (sections : SectionsAreClear) (one_map : OneMap
   -- ---- navcheck
 
   module _ (n : NavCheckJob) (told : AreTold held (job.NavCheck n)) where
-    nav_check_stand : StandForOne held (grid_files n.env) AreOneGrid
-    nav_check_stand = grids_stand_for_one clear held n.env (told n.env (inl (inl refl)))
+    nav_check_stand : StandForOne held (grid_files n.sources) AreOneGrid
+    nav_check_stand = grids_stand_for_one clear held n.sources (told n.sources.env (inl (inl refl)))
 
-    nav_check_calls : CallForOne held (grid_files n.env) (IsBadGrid held n.env)
-    nav_check_calls = grids_call_for_one clear held n.env (told n.env (inl (inl refl)))
+    nav_check_calls : CallForOne held (grid_files n.sources) (IsBadGrid held n.sources)
+    nav_check_calls = grids_call_for_one clear held n.sources (told n.sources.env (inl (inl refl)))
 
     nav_check_changes : IfSome n.changes (λ name. IsSome (held name))
     nav_check_changes = told_name n.changes (λ name is. told name (inl (inr is)))
@@ -351,17 +351,17 @@ module _ (clear : TextsAreClear) (sections : SectionsAreClear) (one_map : OneMap
     nav_check_agrees : (i whole : Intent) → GivesIntent held Failed (job.NavCheck n) i
         → CallsFor held log (job.NavCheck n) whole → Agrees Failed (job.NavCheck n) i whole
     nav_check_agrees (Refused r) (Refused u) gives calls =
-        check_refusals (job.NavCheck n) (grid_files n.env) AreOneGrid nav_check_stand (IsBadGrid held n.env)
+        check_refusals (job.NavCheck n) (grid_files n.sources) AreOneGrid nav_check_stand (IsBadGrid held n.sources)
         nav_check_calls n.changes nav_check_changes n.labels nav_check_labels (λ name is. is) r u gives calls
     nav_check_agrees (Refused r) (Checked goal os end) gives calls =
-        refused_for_checks (job.NavCheck n) (grid_files n.env) AreOneGrid nav_check_stand (IsBadGrid held n.env)
+        refused_for_checks (job.NavCheck n) (grid_files n.sources) AreOneGrid nav_check_stand (IsBadGrid held n.sources)
         nav_check_calls n.changes nav_check_changes n.labels nav_check_labels (λ name is. is) r (Checked goal os end)
         goal os end gives calls.1
     nav_check_agrees (Checked goal os end) (Refused u) gives calls =
-        absurd (checks_not_refused (job.NavCheck n) (grid_files n.env) AreOneGrid nav_check_stand (IsBadGrid held n.env)
+        absurd (checks_not_refused (job.NavCheck n) (grid_files n.sources) AreOneGrid nav_check_stand (IsBadGrid held n.sources)
         nav_check_calls n.changes nav_check_changes n.labels nav_check_labels u goal os end calls gives)
     nav_check_agrees (Checked goal os a) (Checked other ps b) gives calls =
-        checks_agree (job.NavCheck n) (grid_files n.env) AreOneGrid nav_check_stand (IsBadGrid held n.env)
+        checks_agree (job.NavCheck n) (grid_files n.sources) AreOneGrid nav_check_stand (IsBadGrid held n.sources)
         nav_check_calls n.changes nav_check_changes n.labels nav_check_labels grids_alike goal other os ps
         a b calls.0 gives calls.1
     nav_check_agrees OutOfMemory whole gives calls = inr (inr (refl, (writes_of (job.NavCheck n) whole, refl)))
@@ -479,7 +479,7 @@ called_for stand held s t log (job.Nav n) (Planned records true own broken) give
   one,
   begins,
   subst (λ (l : List Entry).
-      ArePlanned held (grid_files n.env) n.changes n.search n.outputs records true l broken) begins gives,
+      ArePlanned held (grid_files n.sources) n.changes n.search n.outputs records true l broken) begins gives,
 )
 called_for stand held s t log (job.Nav n) (Planned records false own broken) gives begins one six nine =
     absurd (nine refl)

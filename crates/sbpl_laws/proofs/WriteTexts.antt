@@ -67,6 +67,7 @@ unread_full why name = not_empty _ _
 refusal_full : (j : Job) (r : Refusal) → refusal_text j r ≢ []
 refusal_full j (refusal.Environment f) = fault_full _ _ _ _
 refusal_full j (refusal.Grid f) = fault_full _ _ _ _
+refusal_full j (refusal.OffMap end) = not_empty _ _
 refusal_full j (refusal.Primitives f) = fault_full _ _ _ _
 refusal_full j (refusal.TooWide i) = fault_full _ _ _ _
 refusal_full j (refusal.TooDear i) = fault_full _ _ _ _

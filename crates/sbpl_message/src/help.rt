@@ -8,12 +8,12 @@ const VERSION: &str = "temjoask 0.1.0\n";
 
 /// How the program is called.
 const USAGE: &str = "\
-usage: temjoask plan ENV MPRIM [--changes F] [--radius M] [--planner P] [--workers N] [--first E] [--step E] [--bound B] [--budget N] [--labels F [--labels-as V]] [--trace F] [--incumbent F]
-       temjoask check ENV MPRIM LABELS [--changes F] [--radius M] [--planner back]
+usage: temjoask plan ENV MPRIM [--changes F] [--start X,Y,T] [--goal X,Y,T] [--radius M] [--planner P] [--workers N] [--first E] [--step E] [--bound B] [--budget N] [--labels F [--labels-as V]] [--trace F] [--incumbent F]
+       temjoask check ENV MPRIM LABELS [--changes F] [--start X,Y,T] [--goal X,Y,T] [--radius M] [--planner back]
        temjoask sweep ENV MPRIM [--radius M]
        temjoask demo SEED W H
-       temjoask nav ENV [--changes F] [--planner P] [--workers N] [--first E] [--step E] [--bound B] [--budget N] [--labels F [--labels-as V]] [--trace F] [--incumbent F]
-       temjoask navcheck ENV LABELS [--changes F]
+       temjoask nav ENV [--changes F] [--start X,Y] [--goal X,Y] [--planner P] [--workers N] [--first E] [--step E] [--bound B] [--budget N] [--labels F [--labels-as V]] [--trace F] [--incumbent F]
+       temjoask navcheck ENV LABELS [--changes F] [--start X,Y] [--goal X,Y]
        temjoask [COMMAND] --help
        temjoask --version
 ";
@@ -29,7 +29,7 @@ const STATUSES: &str = "
 Statuses:
   0   done
   1   a section of labels has a flaw
-  2   the words name no job
+  2   the words name no job, or a start or a goal off the map
   3   the environment has a fault
   4   the primitives have a fault
   5   the changes have a fault

@@ -24,6 +24,8 @@ const OPTIONS: &[&str] = &[
     "--labels-as",
     "--trace",
     "--incumbent",
+    "--start",
+    "--goal",
     "--help",
 ];
 

@@ -2,9 +2,10 @@
 
 use clap::ArgMatches;
 use sbpl_job::{
-    Command, Setting, back_of, budget_of, form_named, milli_by, planner_of, radius_of, read_extent,
-    read_seed, workers_of,
+    Command, Setting, back_of, budget_of, form_named, milli_by, planner_of, pose_by, radius_of,
+    read_extent, read_seed, square_by, workers_of,
 };
+use std::alloc::Global;
 
 /// A value that can be wrong.
 #[derive(Clone, Copy)]
@@ -14,6 +15,14 @@ pub(crate) enum Value {
     /// The file of labels that are checked.
     LabelsFile,
     Changes,
+    /// The start on a lattice.
+    Start,
+    /// The goal on a lattice.
+    Goal,
+    /// The start on a grid.
+    GridStart,
+    /// The goal on a grid.
+    GridGoal,
     Radius,
     First,
     Step,
@@ -56,10 +65,19 @@ fn planner_set(command: Command) -> Value {
     }
 }
 
+/// Whether a command is one on a grid.
+fn is_on_grid(command: Command) -> bool {
+    matches!(command, Command::Nav | Command::NavCheck)
+}
+
 /// What a setting of a command sets.
 pub(crate) fn value_set(command: Command, setting: Setting) -> Value {
     match setting {
         Setting::Changes => Value::Changes,
+        Setting::Start if is_on_grid(command) => Value::GridStart,
+        Setting::Start => Value::Start,
+        Setting::Goal if is_on_grid(command) => Value::GridGoal,
+        Setting::Goal => Value::Goal,
         Setting::Radius => Value::Radius,
         Setting::Planner => planner_set(command),
         Setting::Workers => Value::Workers,
@@ -78,16 +96,18 @@ pub(crate) fn value_set(command: Command, setting: Setting) -> Value {
 fn values_of(command: Command) -> &'static [Value] {
     match command {
         Command::Plan => PLAN,
-        Command::Check => &[Value::Radius, Value::Back],
+        Command::Check => &[Value::Start, Value::Goal, Value::Radius, Value::Back],
         Command::Sweep => &[Value::Radius],
         Command::Demo => &[Value::Seed, Value::Width, Value::Height],
         Command::Nav => NAV,
-        Command::NavCheck => &[],
+        Command::NavCheck => &[Value::GridStart, Value::GridGoal],
     }
 }
 
 /// The values of `plan`.
 const PLAN: &[Value] = &[
+    Value::Start,
+    Value::Goal,
     Value::Radius,
     Value::First,
     Value::Step,
@@ -100,6 +120,8 @@ const PLAN: &[Value] = &[
 
 /// The values of `nav`.
 const NAV: &[Value] = &[
+    Value::GridStart,
+    Value::GridGoal,
     Value::GridPlanner,
     Value::First,
     Value::Step,
@@ -116,6 +138,8 @@ pub(crate) fn name_of(value: Value) -> &'static str {
         Value::Prims => "MPRIM",
         Value::LabelsFile => "LABELS",
         Value::Changes => "--changes",
+        Value::Start | Value::GridStart => "--start",
+        Value::Goal | Value::GridGoal => "--goal",
         Value::Radius => "--radius",
         Value::First => "--first",
         Value::Step => "--step",
@@ -151,6 +175,10 @@ pub(crate) fn wanted(value: Value) -> &'static str {
             "a file to read, whose name is not empty and does not begin with \"-\"",
         Value::Labels | Value::Trace | Value::Incumbent =>
             "a file to write, whose name is not empty and does not begin with \"-\"",
+        Value::Start | Value::Goal =>
+            "X,Y,T: three decimals from -1000000000 to 1000000000, two in metres and the angle in radians",
+        Value::GridStart | Value::GridGoal =>
+            "X,Y: the column and the row of a cell, from 0 to 8388607",
         Value::Radius => "a decimal from 0 to 1000, in metres",
         Value::First | Value::Bound => "a decimal from 1 to 100, in whole thousandths",
         Value::Step => "a decimal from 0.001 to 99, in whole thousandths",
@@ -190,9 +218,11 @@ fn is_form_right(matches: &ArgMatches) -> bool {
 }
 
 /// Whether a number or a choice is right, or not given.
-fn is_right(value: Value, matches: &ArgMatches) -> bool {
+fn is_right(alloc: Global, value: Value, matches: &ArgMatches) -> bool {
     let given = given(value, matches);
     match value {
+        Value::Start | Value::Goal => pose_by(alloc, given).is_ok(),
+        Value::GridStart | Value::GridGoal => square_by(alloc, given).is_ok(),
         Value::Radius => radius_of(matches).is_ok(),
         Value::First | Value::Bound => milli_by(given, 1000, 1000, 100_000).is_ok(),
         Value::Step => milli_by(given, 500, 1, 99_000).is_ok(),
@@ -209,9 +239,9 @@ fn is_right(value: Value, matches: &ArgMatches) -> bool {
 }
 
 /// The first number or choice of a command that is wrong.
-pub(crate) fn wrong_value(command: Command, matches: &ArgMatches) -> Option<Value> {
+pub(crate) fn wrong_value(alloc: Global, command: Command, matches: &ArgMatches) -> Option<Value> {
     for value in values_of(command) {
-        if !is_right(*value, matches) {
+        if !is_right(alloc, *value, matches) {
             return Some(*value);
         }
     }

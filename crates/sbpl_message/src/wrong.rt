@@ -51,7 +51,7 @@ fn wrong_value_text(alloc: Global, value: Value, found: &str) -> Result<String, 
 
 /// What is wrong with words that `clap` takes.
 fn wrong_in(alloc: Global, command: Command, matches: &ArgMatches) -> Result<String, AllocError> {
-    if let Some(value) = wrong_value(command, matches) {
+    if let Some(value) = wrong_value(alloc, command, matches) {
         return wrong_value_text(alloc, value, given(value, matches).unwrap_or(""));
     }
     let Some((other, written)) = same_files(matches) else {

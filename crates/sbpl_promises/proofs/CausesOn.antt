@@ -2,6 +2,7 @@
 use Rattle.std.proofs.Common.{ℕ, List, Option, Some, refl, inl, inr}
 use Rattle.sbpl_report.specs.sbpl_job.declared.job.Job.{Job}
 use Rattle.sbpl_report.specs.sbpl_job.declared.job.Job.TheVariants as job
+use Rattle.sbpl_report.specs.sbpl_job.declared.job.GridSources.{GridSources}
 use Rattle.sbpl_report.specs.sbpl_job.declared.job.Sources.{Sources}
 use Rattle.sbpl_report.specs.declared.refusal.Input.TheVariants as input
 use Rattle.sbpl_report.specs.declared.refusal.Refusal.{Refusal}
@@ -24,9 +25,9 @@ module _ (held : Told) (F G : Names) where
       }
   cause_on from _ on cause = cause
 
-  grid_cause_on : (env : List ℕ) (r : Refusal) → IsFailedOn F G r → IsGridCause held F env r → IsGridCause held G env r
-  grid_cause_on env (refusal.Read input.Environment) on cause = on refl env cause
-  grid_cause_on env _ on cause = cause
+  grid_cause_on : (from : GridSources) (r : Refusal) → IsFailedOn F G r → IsGridCause held F from r → IsGridCause held G from r
+  grid_cause_on from (refusal.Read input.Environment) on cause = on refl from.env cause
+  grid_cause_on from _ on cause = cause
 
   changes_cause_on : {W : Type 0} (f : WorldFiles W) (changes : Option (List ℕ)) (r : Refusal) → IsFailedOn F G r
       → IsChangesCause held F f changes r → IsChangesCause held G f changes r
@@ -58,6 +59,6 @@ module _ (held : Told) (F G : Names) where
   job_cause_on (job.Sweep from) r on cause = cause_on from r on cause
   job_cause_on (job.Demo d) r on cause = cause
   job_cause_on (job.Nav j) r on cause =
-      early_cause_on (grid_files j.env) j.changes r (grid_cause_on j.env r on) on cause
+      early_cause_on (grid_files j.sources) j.changes r (grid_cause_on j.sources r on) on cause
   job_cause_on (job.NavCheck j) r on cause =
-      check_cause_on (grid_files j.env) j.changes j.labels r (grid_cause_on j.env r on) on cause
+      check_cause_on (grid_files j.sources) j.changes j.labels r (grid_cause_on j.sources r on) on cause

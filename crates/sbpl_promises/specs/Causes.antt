@@ -1,6 +1,6 @@
 -- What the files that a world is made of say, and why a job on it is refused. `Reads..`: what a job read, which is what the desk
 -- holds as far as it tells. That the desk tells it is `Tells..` of Promises.
-use Rattle.std.specs.Prelude.{◌≡◌, ◌≢◌, ℕ, ◌^◌, ◌<◌, ◌≤◌, ◌⊎◌, Bool, false, List, [], length, slice_get, Option, Some, None, IfSome}
+use Rattle.std.specs.Prelude.{◌≡◌, ◌≢◌, ℕ, ◌^◌, ◌<◌, ◌≤◌, ◌⊎◌, Bool, false, List, [], length, slice_get, Option, Some, None, IfSome, codes}
 use Rattle.sbpl_report.specs.sbpl_cfg.declared.fault.EnvFault.{EnvFault}
 use Rattle.sbpl_report.specs.sbpl_cfg.Environment.{Environment}
 use Rattle.sbpl_report.specs.sbpl_cfg.declared.pose.Place.{Place}
@@ -34,7 +34,9 @@ use Rattle.sbpl_report.specs.sbpl_job.declared.job.Outputs.{Outputs}
 use Rattle.sbpl_report.specs.sbpl_job.declared.job.PlanJob.{PlanJob}
 use Rattle.sbpl_report.specs.sbpl_job.declared.job.Planner.TheVariants as planner
 use Rattle.sbpl_report.specs.sbpl_job.declared.job.SearchJob.{SearchJob}
+use Rattle.sbpl_report.specs.sbpl_job.declared.job.GridSources.{GridSources}
 use Rattle.sbpl_report.specs.sbpl_job.declared.job.Sources.{Sources}
+use Rattle.sbpl_report.specs.declared.refusal.PathEnd.{PathEnd}
 use Rattle.sbpl_report.specs.declared.record.PlanRecord.{PlanRecord}
 use Rattle.sbpl_report.specs.sbpl_plan.declared.found.Found.{Found}
 use Rattle.sbpl_promises.specs.Headline.{ArePlans}
@@ -50,7 +52,7 @@ use Rattle.sbpl_report.specs.sbpl_cfg.Faults as env_faults
 use Rattle.sbpl_report.specs.sbpl_lists.Messages.{IsMessageAt, IsMessageOnLine, IsPlainMessage}
 use Rattle.sbpl_report.specs.sbpl_map.Faults as change_faults
 use Rattle.sbpl_report.specs.sbpl_mprim.Faults as prim_faults
-use Rattle.sbpl_promises.specs.Texts.{IsEnvironmentText, HasEnvironmentFault, IsGridText, HasGridFault, IsPrimitiveText, HasPrimitiveFault, IsChangeText, HasChangeFault, Scope, scope_for, still, still_scope}
+use Rattle.sbpl_promises.specs.Texts.{HasEndOff, HasGridEndOff, IsFirstOff, IsEnvironmentFor, HasEnvironmentFault, IsGridFor, HasGridFault, IsPrimitiveText, HasPrimitiveFault, IsChangeText, HasChangeFault, Scope, scope_for, still, still_scope}
 
 -- these bytes were read of a file: the held ones, where the desk tells them, and at most 2 ^ 30
 pub record IsReadText (held : Option (List ℕ)) (text : List ℕ) : Type 0 where
@@ -61,11 +63,11 @@ pub record IsReadText (held : Option (List ℕ)) (text : List ℕ) : Type 0 wher
 abbrev pub IsTooLong : Option (List ℕ) → Type 0
 IsTooLong held = IfSome held (λ bytes. 2 ^ 30 < length bytes)
 
--- the environment file stands for an environment and the costs of its cells
+-- the environment file, with the start and the goal of the words, stands for an environment and the costs of its cells
 pub record ReadsEnvironment (held : Told) (from : Sources) (e : Environment) (cells : List ℕ) : Type 0 where
   pub text : List ℕ
   pub read : IsReadText (held from.env) text
-  pub stands : IsEnvironmentText text e cells
+  pub stands : IsEnvironmentFor from text e cells
 
 -- the primitive file stands for primitives, for this environment
 pub record ReadsPrimitives (held : Told) (from : Sources) (e : Environment) (ps : Primitives) : Type 0 where
@@ -150,6 +152,12 @@ pub record IsFaultyEnvironment (held : Told) (from : Sources) (f : EnvFault) : T
   pub read : IsReadText (held from.env) text
   pub faulty : HasEnvironmentFault text f
 
+-- it stands for an environment, and this end that the words give is off its map
+pub record IsEndOff (held : Told) (from : Sources) (end : PathEnd) : Type 0 where
+  pub text : List ℕ
+  pub read : IsReadText (held from.env) text
+  pub off : HasEndOff from text end
+
 -- the primitive file has this first fault, for an environment
 pub record IsFaultyFor (held : Told) (from : Sources) (e : Environment) (f : PrimFault) : Type 0 where
   pub text : List ℕ
@@ -193,6 +201,7 @@ pub record IsSecond (held : Told) (from : Sources) (P : Type 0) : Type 0 where
 -- why a job is refused: what the files hold, or the names of which a read failed
 abbrev pub IsCause : Told → Names → Sources → Refusal → Type 0
 IsCause held Failed from (refusal.Environment f) = IsFaultyEnvironment held from f
+IsCause held Failed from (refusal.OffMap end) = IsEndOff held from end
 IsCause held Failed from (refusal.Primitives f) = IsFaultyPrimitives held from f
 IsCause held Failed from (refusal.TooWide place) = IsTooWideJob held from place
 IsCause held Failed from (refusal.TooDear place) = IsTooDearJob held from place
@@ -268,39 +277,46 @@ plan_files j = lattice_files j.sources (may_move j.search.planner)
 abbrev pub check_files : CheckJob → WorldFiles World
 check_files j = lattice_files j.sources j.back
 
--- the environment file of a grid stands for its world
-pub record ReadsGrid (held : Told) (env : List ℕ) (w : GridWorld) : Type 0 where
+-- the environment file of a grid, with the start and the goal of the words, stands for its world
+pub record ReadsGrid (held : Told) (from : GridSources) (w : GridWorld) : Type 0 where
   pub text : List ℕ
-  pub read : IsReadText (held env) text
+  pub read : IsReadText (held from.env) text
   pub cells : List ℕ
-  pub stands : IsGridText text w.env cells
+  pub stands : IsGridFor from text w.env cells
   pub map : w.map ≡ record { width = w.env.width; height = w.env.height; costs = cells }
 
 -- it has this first fault
-pub record IsFaultyGrid (held : Told) (env : List ℕ) (f : EnvFault) : Type 0 where
+pub record IsFaultyGrid (held : Told) (from : GridSources) (f : EnvFault) : Type 0 where
   pub text : List ℕ
-  pub read : IsReadText (held env) text
+  pub read : IsReadText (held from.env) text
   pub faulty : HasGridFault text f
 
+-- it stands for an environment, and this end that the words give is off its map
+pub record IsGridEndOff (held : Told) (from : GridSources) (end : PathEnd) : Type 0 where
+  pub text : List ℕ
+  pub read : IsReadText (held from.env) text
+  pub off : HasGridEndOff from text end
+
 -- why a job on a grid is refused: what the environment file holds, or that it was not read
-abbrev pub IsGridCause : Told → Names → (env : List ℕ) → Refusal → Type 0
-IsGridCause held Failed env (refusal.Grid f) = IsFaultyGrid held env f
-IsGridCause held Failed env (refusal.Read input.Environment) = Failed env
-IsGridCause held Failed env (refusal.Length input.Environment) = IsTooLong (held env)
-IsGridCause held Failed env _ = ⊥
+abbrev pub IsGridCause : Told → Names → GridSources → Refusal → Type 0
+IsGridCause held Failed from (refusal.Grid f) = IsFaultyGrid held from f
+IsGridCause held Failed from (refusal.OffMap end) = IsGridEndOff held from end
+IsGridCause held Failed from (refusal.Read input.Environment) = Failed from.env
+IsGridCause held Failed from (refusal.Length input.Environment) = IsTooLong (held from.env)
+IsGridCause held Failed from _ = ⊥
 
 -- for what the change file of a grid is read
 abbrev pub grid_scope : GridWorld → Scope
 grid_scope w = still_scope w.map
 
 -- the file of a grid
-abbrev pub grid_files : (env : List ℕ) → WorldFiles GridWorld
-grid_files env = record {
+abbrev pub grid_files : GridSources → WorldFiles GridWorld
+grid_files from = record {
   on = grid_site;
   moves = false;
-  names = λ name. name ≡ env;
-  stand_for = λ held w. ReadsGrid held env w;
-  refused = λ held Failed r. IsGridCause held Failed env r;
+  names = λ name. name ≡ from.env;
+  stand_for = λ held w. ReadsGrid held from w;
+  refused = λ held Failed r. IsGridCause held Failed from r;
   scope = grid_scope;
 }
 
@@ -310,8 +326,8 @@ IsJobCause held Failed (job.Plan j) r = IsEarlyCause held Failed (plan_files j) 
 IsJobCause held Failed (job.Check j) r = IsCheckCause held Failed (check_files j) j.changes j.labels r
 IsJobCause held Failed (job.Sweep from) r = IsCause held Failed from r
 IsJobCause held Failed (job.Demo d) r = ⊥
-IsJobCause held Failed (job.Nav j) r = IsEarlyCause held Failed (grid_files j.env) j.changes r
-IsJobCause held Failed (job.NavCheck j) r = IsCheckCause held Failed (grid_files j.env) j.changes j.labels r
+IsJobCause held Failed (job.Nav j) r = IsEarlyCause held Failed (grid_files j.sources) j.changes r
+IsJobCause held Failed (job.NavCheck j) r = IsCheckCause held Failed (grid_files j.sources) j.changes j.labels r
 
 -- a refusal with a cause; or memory ran out
 abbrev pub StopsFor : (Refusal → Type 0) → JobStop → Type 0
@@ -342,8 +358,24 @@ IsUnread before after name i (stop.Refused _ m) = ⊥
 IsUnread before after name i stop.NoMemory = Unit {0}
 
 -- why no grid was made
-abbrev pub GridStopsFor : (before after : DeskState) → (env : List ℕ) → JobStop → Type 0
-GridStopsFor before after env s = StopsFor (IsGridCause before.held (ReadFailed before after) env) s
+abbrev pub GridStopsFor : (before after : DeskState) → GridSources → JobStop → Type 0
+GridStopsFor before after from s = StopsFor (IsGridCause before.held (ReadFailed before after) from) s
+
+-- the program's name, which stands where a message is on no file
+abbrev pub program : List ℕ
+program = codes "temjoask"
+
+-- this end, which is off the map, was refused, and what is told of that; or memory ran out
+abbrev pub IsEndRefused : PathEnd → JobStop → Type 0
+IsEndRefused end (stop.Refused (refusal.OffMap other) m) = (other ≡ end) × IsPlainMessage program m
+IsEndRefused end (stop.Refused _ m) = ⊥
+IsEndRefused end stop.NoMemory = Unit {0}
+
+-- why a start and a goal that the words give were refused
+pub record IsOffStop {P : Type 0} (IsOn : P → Type 0) (start goal : Option P) (s : JobStop) : Type 0 where
+  pub end : PathEnd
+  pub off : IsFirstOff IsOn start goal end
+  pub refused : IsEndRefused end s
 
 -- why the text of the environment file of a grid, of this name, was refused, and what is told of that
 abbrev pub IsGridRefused : (name text : List ℕ) → JobStop → Type 0

@@ -48,8 +48,8 @@ IsInput (job.Plan j) name = IsEarlyInput (plan_files j) j.changes name
 IsInput (job.Check j) name = IsEarlyInput (check_files j) j.changes name ⊎ (name ≡ j.labels)
 IsInput (job.Sweep from) name = IsSource from name
 IsInput (job.Demo d) name = ⊥
-IsInput (job.Nav j) name = IsEarlyInput (grid_files j.env) j.changes name
-IsInput (job.NavCheck j) name = IsEarlyInput (grid_files j.env) j.changes name ⊎ (name ≡ j.labels)
+IsInput (job.Nav j) name = IsEarlyInput (grid_files j.sources) j.changes name
+IsInput (job.NavCheck j) name = IsEarlyInput (grid_files j.sources) j.changes name ⊎ (name ≡ j.labels)
 
 -- the desk tells what each file of the job holds
 abbrev pub AreTold : Told → Job → Type 0
@@ -72,8 +72,8 @@ CallsFor held log (job.Plan j) (Planned records all own broken) = (all ≡ true)
 CallsFor held log (job.Check j) (Checked goals os end) = (end ≢ Some section.NoMemory) × IsChecked held (check_files j) j.changes j.labels goals os end
 CallsFor held log (job.Sweep from) (Listed w) = ReadsWorld held from w
 CallsFor held log (job.Demo d) (Demonstrated w count records all own broken) = (all ≡ true) × (own ≡ log) × IsDemonstration d w count records true log broken
-CallsFor held log (job.Nav j) (Planned records all own broken) = (all ≡ true) × (is_determined j.search.planner ≡ true) × (own ≡ log) × ArePlanned held (grid_files j.env) j.changes j.search j.outputs records true log broken
-CallsFor held log (job.NavCheck j) (Checked goals os end) = (end ≢ Some section.NoMemory) × IsChecked held (grid_files j.env) j.changes j.labels goals os end
+CallsFor held log (job.Nav j) (Planned records all own broken) = (all ≡ true) × (is_determined j.search.planner ≡ true) × (own ≡ log) × ArePlanned held (grid_files j.sources) j.changes j.search j.outputs records true log broken
+CallsFor held log (job.NavCheck j) (Checked goals os end) = (end ≢ Some section.NoMemory) × IsChecked held (grid_files j.sources) j.changes j.labels goals os end
 CallsFor held log _ _ = ⊥
 
 -- the job makes no plans by a planner whose passes are not determined

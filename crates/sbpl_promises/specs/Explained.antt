@@ -21,6 +21,7 @@ use Rattle.sbpl_report.specs.declared.refusal.JobStop.TheVariants as stop
 use Rattle.sbpl_report.specs.Refusals.{file_name, input_name}
 use Rattle.sbpl_promises.specs.declared.section_stop.SectionStop.TheVariants as section
 use Rattle.sbpl_promises.specs.Causes.{IsReadText, check_files, grid_files}
+pub use Rattle.sbpl_promises.specs.Causes.{program}
 use Rattle.sbpl_promises.specs.Promises.{AtJob, IsJudged, IsRefused}
 use Rattle.sbpl_promises.specs.Texts.{HasChangeFault, HasEnvironmentFault, HasGridFault, HasPrimitiveFault, Scope}
 use Rattle.sbpl_promises.specs.WorldFiles.{WorldFiles}
@@ -57,10 +58,11 @@ abbrev pub HasSomePrimitiveFault : List ℕ → PrimFault → Type 0
 HasSomePrimitiveFault text f = (e : Environment) × HasPrimitiveFault e text f
 
 -- What is told of a refusal, where files have these names: the place of the fault in its file, and what stands there; or which file it is
--- on. Of a file that is too long nothing is told but its line in the report.
+-- on, or that it is on the words. Of a file that is too long nothing is told but its line in the report.
 abbrev pub Explains : Told → (Input → List ℕ) → Refusal → List ℕ → Type 0
 Explains held names (refusal.Environment f) m = IsOnFault HasEnvironmentFault env_faults.place_of held (names input.Environment) f m
 Explains held names (refusal.Grid f) m = IsOnFault HasGridFault env_faults.place_of held (names input.Environment) f m
+Explains held names (refusal.OffMap end) m = IsPlainMessage program m
 Explains held names (refusal.Primitives f) m = IsOnFault HasSomePrimitiveFault prim_faults.place_of held (names input.Primitives) f m
 Explains held names (refusal.TooWide i) m = IsPlainMessage (names input.Primitives) m
 Explains held names (refusal.TooDear i) m = IsPlainMessage (names input.Primitives) m
@@ -93,10 +95,6 @@ ExplainsGrid held env s = (changes labels : Option (List ℕ)) → ExplainsStop 
 abbrev pub ExplainsGridUpdates : Told → (env : List ℕ) → (changes : Option (List ℕ)) → JobStop → Type 0
 ExplainsGridUpdates held env changes s = (labels : Option (List ℕ)) → ExplainsStop held (file_name env None changes labels) s
 
--- the program's name, which stands where a message is on no file
-abbrev pub program : List ℕ
-program = codes "temjoask"
-
 -- what is told where a write failed
 abbrev pub unwritten_text : List ℕ
 unwritten_text = codes "temjoask: a write failed: to the standard output, or to the file of --labels, --trace or --incumbent\n"
@@ -111,7 +109,7 @@ pub record IsFaultExplained {W : Type 0} (before after : DeskState) (f : WorldFi
 -- the same of a job that checks labels
 abbrev pub IsLabelFaultExplained : (before after : DeskState) → Job → List ℕ → Type 0
 IsLabelFaultExplained before after (job.Check j) m = IsFaultExplained before after (check_files j) j.changes j.labels m
-IsLabelFaultExplained before after (job.NavCheck j) m = IsFaultExplained before after (grid_files j.env) j.changes j.labels m
+IsLabelFaultExplained before after (job.NavCheck j) m = IsFaultExplained before after (grid_files j.sources) j.changes j.labels m
 IsLabelFaultExplained before after _ m = ⊥
 
 -- a message on the file of labels of a job that checks them, where they have a flaw, which the report says
@@ -123,7 +121,7 @@ IsFlawExplained _ m = ⊥
 -- a message on the environment file of a job that makes plans: why the first has no path
 abbrev pub IsBlockExplained : Job → List ℕ → Type 0
 IsBlockExplained (job.Plan j) m = IsPlainMessage j.sources.env m
-IsBlockExplained (job.Nav j) m = IsPlainMessage j.env m
+IsBlockExplained (job.Nav j) m = IsPlainMessage j.sources.env m
 IsBlockExplained _ m = ⊥
 
 -- What is told of a job that ended with a status: of its refusal, whose line the report has; of a flaw or a fault in its labels; that a write

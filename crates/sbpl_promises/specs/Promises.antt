@@ -27,15 +27,17 @@ use Rattle.sbpl_report.specs.sbpl_job.declared.job.Job.TheVariants as job
 use Rattle.sbpl_report.specs.sbpl_job.declared.job.DemoJob.{DemoJob}
 use Rattle.sbpl_report.specs.sbpl_job.declared.job.Outputs.{Outputs}
 use Rattle.sbpl_report.specs.sbpl_job.declared.job.SearchJob.{SearchJob}
+use Rattle.sbpl_report.specs.sbpl_job.declared.job.GridSources.{GridSources}
 use Rattle.sbpl_report.specs.sbpl_job.declared.job.Sources.{Sources}
 use Rattle.sbpl_report.specs.declared.record.PlanRecord.{PlanRecord}
+use Rattle.sbpl_report.specs.declared.refusal.PathEnd.{PathEnd}
 use Rattle.sbpl_report.specs.declared.refusal.Refusal.{Refusal}
 use Rattle.sbpl_promises.specs.Causes.{AreDemonstrated, ArePlanned, IsJobCause, IsReadText, NoneTooDear, ReadsUpdates, ReadsWorld, check_files, grid_files, plan_files}
 use Rattle.sbpl_report.specs.sbpl_sweep.Widths.{NoneTooWide}
 use Rattle.sbpl_promises.specs.Intents.{BeginsAfter, Intent, Refused, Planned, Checked, Listed, Demonstrated, OutOfMemory, published_by, checked_writes, demo_writes, end_writes, intent_status, listing_writes, outputs_of, plans_status, plans_writes, refusal_writes, statuses, words_writes, writes_of}
 use Rattle.sbpl_report.specs.Refusals.{refusal_status}
 use Rattle.sbpl_promises.specs.declared.updates.Updates.{Updates}
-use Rattle.sbpl_promises.specs.Texts.{HasChangeFault, HasEnvironmentFault, HasGridFault, HasPrimitiveFault, IsChangeText, IsEnvironmentText, IsGridText, IsPrimitiveText, Scope, scope_for, still}
+use Rattle.sbpl_promises.specs.Texts.{HasChangeFault, HasEndOff, HasEnvironmentFault, HasGridEndOff, HasGridFault, HasPrimitiveFault, IsChangeText, IsEnvironmentFor, IsGridFor, IsPrimitiveText, Scope, scope_for, still}
 use Rattle.sbpl_promises.specs.Writing.{AreAppended, DeskState, EndsAs, IsCutAt, IsOutput, IsOutputOf, RunsOutAt, Names, ReadFailed, Stays, StaysBut, Told, Write, WriteFailed}
 
 -- the words name this job, of which P holds
@@ -101,13 +103,13 @@ pub record IsJudged {W : Type 0} (before after : DeskState) (end : Option Sectio
 -- the job `check` found this flaw, and said so
 abbrev pub IsFlawFound : (before after : DeskState) → Job → Type 0
 IsFlawFound before after (job.Check j) = (x : Flaw) × IsJudged before after (Some (section.Flaw x)) (check_files j) j.changes j.labels
-IsFlawFound before after (job.NavCheck j) = (x : Flaw) × IsJudged before after (Some (section.Flaw x)) (grid_files j.env) j.changes j.labels
+IsFlawFound before after (job.NavCheck j) = (x : Flaw) × IsJudged before after (Some (section.Flaw x)) (grid_files j.sources) j.changes j.labels
 IsFlawFound before after _ = ⊥
 
 -- the job `check` found this fault in the text of the labels, and said so
 abbrev pub IsFaultFound : (before after : DeskState) → Job → Type 0
 IsFaultFound before after (job.Check j) = (x : LabelFault) × IsJudged before after (Some (section.Fault x)) (check_files j) j.changes j.labels
-IsFaultFound before after (job.NavCheck j) = (x : LabelFault) × IsJudged before after (Some (section.Fault x)) (grid_files j.env) j.changes j.labels
+IsFaultFound before after (job.NavCheck j) = (x : LabelFault) × IsJudged before after (Some (section.Fault x)) (grid_files j.sources) j.changes j.labels
 IsFaultFound before after _ = ⊥
 
 -- the job was done, and what came of it was written
@@ -116,8 +118,8 @@ IsDone before after old (job.Plan j) = IsReported before after old (plan_files j
 IsDone before after old (job.Check j) = IsJudged before after None (check_files j) j.changes j.labels
 IsDone before after old (job.Sweep from) = IsListed before after from
 IsDone before after old (job.Demo d) = IsDemonstrated before after old d
-IsDone before after old (job.Nav j) = IsReported before after old (grid_files j.env) j.changes j.search j.outputs
-IsDone before after old (job.NavCheck j) = IsJudged before after None (grid_files j.env) j.changes j.labels
+IsDone before after old (job.Nav j) = IsReported before after old (grid_files j.sources) j.changes j.search j.outputs
+IsDone before after old (job.NavCheck j) = IsJudged before after None (grid_files j.sources) j.changes j.labels
 
 -- the job was refused with this status, for a cause, and the line of the refusal was written, and nothing under names other than
 -- that of the standard output
@@ -140,8 +142,8 @@ GivesIntent held Failed (job.Plan j) (Planned records all log broken) = ArePlann
 GivesIntent held Failed (job.Check j) (Checked goals os end) = IsChecked held (check_files j) j.changes j.labels goals os end
 GivesIntent held Failed (job.Sweep from) (Listed w) = ReadsWorld held from w × IsWorld w
 GivesIntent held Failed (job.Demo d) (Demonstrated w batches records all log broken) = IsDemonstration d w batches records all log broken
-GivesIntent held Failed (job.Nav j) (Planned records all log broken) = ArePlanned held (grid_files j.env) j.changes j.search j.outputs records all log broken
-GivesIntent held Failed (job.NavCheck j) (Checked goals os end) = IsChecked held (grid_files j.env) j.changes j.labels goals os end
+GivesIntent held Failed (job.Nav j) (Planned records all log broken) = ArePlanned held (grid_files j.sources) j.changes j.search j.outputs records all log broken
+GivesIntent held Failed (job.NavCheck j) (Checked goals os end) = IsChecked held (grid_files j.sources) j.changes j.labels goals os end
 GivesIntent held Failed _ _ = ⊥
 
 -- the name is one that a job which means to do this may write under: besides the standard output only where plans were made, and
@@ -234,9 +236,13 @@ TellsTooMuch held = (text : List ℕ) × (held ≡ Some text) × (2 ^ 30 < lengt
 abbrev pub TellsEnvironmentFault : Told → Sources → EnvFault → Type 0
 TellsEnvironmentFault held from f = (text : List ℕ) × Tells (held from.env) text × HasEnvironmentFault text f
 
--- the desk tells that the environment file stands for this environment
+-- the desk tells that the environment file, with the start and the goal of the words, stands for this environment
 abbrev pub TellsEnvironment : Told → Sources → Environment → Type 0
-TellsEnvironment held from e = (text : List ℕ) × (cells : List ℕ) × Tells (held from.env) text × IsEnvironmentText text e cells
+TellsEnvironment held from e = (text : List ℕ) × (cells : List ℕ) × Tells (held from.env) text × IsEnvironmentFor from text e cells
+
+-- the desk tells that it stands for one, and that this end that the words give is off its map
+abbrev pub TellsEndOff : Told → Sources → PathEnd → Type 0
+TellsEndOff held from end = (text : List ℕ) × Tells (held from.env) text × HasEndOff from text end
 
 -- the desk tells that the primitive file has this first fault, for an environment
 abbrev pub TellsPrimitiveFault : Told → Sources → Environment → PrimFault → Type 0
@@ -248,7 +254,7 @@ TellsPrimitives held from e ps = (text : List ℕ) × Tells (held from.prims) te
 
 -- the desk tells that the environment file gives a change file this scope, where the robot moves or not
 abbrev pub TellsScope : Told → Sources → (moving : Bool) → Scope → Type 0
-TellsScope held from moving s = (text : List ℕ) × (e : Environment) × (cells : List ℕ) × Tells (held from.env) text × IsEnvironmentText text e cells × (s ≡ scope_for moving e (record { width = e.width; height = e.height; costs = cells }))
+TellsScope held from moving s = (text : List ℕ) × (e : Environment) × (cells : List ℕ) × Tells (held from.env) text × IsEnvironmentFor from text e cells × (s ≡ scope_for moving e (record { width = e.width; height = e.height; costs = cells }))
 
 -- the desk tells that the change file has this first fault
 abbrev pub TellsChangeFault : Told → Option (List ℕ) → Scope → ChangeFault → Type 0
@@ -288,26 +294,30 @@ sources_of _ = None
 abbrev pub ReadsFrom : Option Job → Sources → Type 0
 ReadsFrom named from = AtJob named (λ j. sources_of j ≡ Some from)
 
--- the environment file of the job's grid, if it is one on a grid
-abbrev pub grid_of : Job → Option (List ℕ)
-grid_of (job.Nav j) = Some j.env
-grid_of (job.NavCheck j) = Some j.env
+-- what the job's grid is made of, if it is one on a grid
+abbrev pub grid_of : Job → Option GridSources
+grid_of (job.Nav j) = Some j.sources
+grid_of (job.NavCheck j) = Some j.sources
 grid_of _ = None
 
--- the words name a job on the grid of this environment file
-abbrev pub IsOnGrid : Option Job → (env : List ℕ) → Type 0
-IsOnGrid named env = AtJob named (λ j. grid_of j ≡ Some env)
+-- the words name a job on this grid
+abbrev pub IsOnGrid : Option Job → GridSources → Type 0
+IsOnGrid named from = AtJob named (λ j. grid_of j ≡ Some from)
 
--- the desk tells that this environment file of a grid has this first fault
-abbrev pub TellsGridFault : Told → (env : List ℕ) → EnvFault → Type 0
-TellsGridFault held env f = (text : List ℕ) × Tells (held env) text × HasGridFault text f
+-- the desk tells that the environment file of a grid has this first fault
+abbrev pub TellsGridFault : Told → GridSources → EnvFault → Type 0
+TellsGridFault held from f = (text : List ℕ) × Tells (held from.env) text × HasGridFault text f
 
--- the desk tells that it stands for this world
-pub record TellsGrid (held : Told) (env : List ℕ) (w : GridWorld) : Type 0 where
+-- the desk tells that it stands for an environment, and that this end that the words give is off its map
+abbrev pub TellsGridEndOff : Told → GridSources → PathEnd → Type 0
+TellsGridEndOff held from end = (text : List ℕ) × Tells (held from.env) text × HasGridEndOff from text end
+
+-- the desk tells that it stands for this world, with the start and the goal of the words
+pub record TellsGrid (held : Told) (from : GridSources) (w : GridWorld) : Type 0 where
   pub text : List ℕ
   pub cells : List ℕ
-  pub told : Tells (held env) text
-  pub stands : IsGridText text w.env cells
+  pub told : Tells (held from.env) text
+  pub stands : IsGridFor from text w.env cells
   pub map : w.map ≡ record { width = w.env.width; height = w.env.height; costs = cells }
   pub is_world : IsGridWorld w
 

@@ -1,8 +1,14 @@
 -- What a text is to the formats of the files: what it stands for, and its first fault.
-use Rattle.std.specs.Prelude.{◌≡◌, ℕ, Bool, if◌then◌else◌, List, Option, Some, None}
+use Rattle.std.specs.Prelude.{◌≡◌, ◌+◌, ◌*◌, ◌<◌, ℕ, Bool, if◌then◌else◌, List, Option, Some, None, IfSome}
+use Rattle.std.specs.Option.{option_map_or, unwrap_or}
+use Rattle.sbpl_report.specs.declared.refusal.PathEnd.{PathEnd}
+use Rattle.sbpl_report.specs.declared.refusal.PathEnd.TheVariants as path_end
+use Rattle.sbpl_report.specs.sbpl_job.declared.job.GridSources.{GridSources}
+use Rattle.sbpl_report.specs.sbpl_job.declared.job.Sources.{Sources}
+use Rattle.sbpl_report.specs.sbpl_job.declared.job.Square.{Square}
 use Rattle.sbpl_report.specs.sbpl_cfg.declared.pose.Place.{Place}
 use Rattle.sbpl_report.specs.sbpl_cfg.declared.fault.EnvFault.{EnvFault}
-use Rattle.sbpl_report.specs.sbpl_cfg.Environment.{Environment}
+use Rattle.sbpl_report.specs.sbpl_cfg.Environment.{Environment, IsPoseOnMap}
 use Rattle.sbpl_report.specs.sbpl_cfg.Text as environments
 use Rattle.sbpl_report.specs.sbpl_map.CellMap.{CellMap}
 use Rattle.sbpl_report.specs.sbpl_map.ChangeText as changes
@@ -41,6 +47,56 @@ IsGridText text e cells = grids.IsTextOf text e cells
 -- the first fault of the text of the environment file of a grid
 abbrev pub HasGridFault : List ℕ → EnvFault → Type 0
 HasGridFault text f = grids.HasFault text f
+
+-- ---- the start and the goal, where words give them
+
+-- they are on a map
+abbrev pub AreOn : {P : Type 0} → (IsOn : P → Type 0) → (start goal : Option P) → Type 0
+AreOn IsOn start goal = IfSome start IsOn × IfSome goal IsOn
+
+-- an end of a path is given, and it is off the map
+pub record IsOff {P : Type 0} (IsOn : P → Type 0) (given : Option P) : Type 0 where
+  pub end : P
+  pub is : given ≡ Some end
+  pub off : IsOn end → ⊥
+
+-- this is the first of them that is off the map: the start comes before the goal
+abbrev pub IsFirstOff : {P : Type 0} → (IsOn : P → Type 0) → (start goal : Option P) → PathEnd → Type 0
+IsFirstOff IsOn start goal path_end.Start = IsOff IsOn start
+IsFirstOff IsOn start goal path_end.Goal = IfSome start IsOn × IsOff IsOn goal
+
+-- the environment of a file, with the start and the goal of the words in place of its own
+abbrev pub posed : Sources → Environment → Environment
+posed from e = record e { start = unwrap_or from.start e.start; end = unwrap_or from.goal e.end }
+
+-- the text of an environment file, and the words, stand for an environment and the costs of its cells
+abbrev pub IsEnvironmentFor : Sources → List ℕ → Environment → List ℕ → Type 0
+IsEnvironmentFor from text e cells = (file : Environment) × IsEnvironmentText text file cells × AreOn (IsPoseOnMap file) from.start from.goal × (e ≡ posed from file)
+
+-- the text stands for an environment, and this end that the words give is off its map
+abbrev pub HasEndOff : Sources → List ℕ → PathEnd → Type 0
+HasEndOff from text end = (file : Environment) × (cells : List ℕ) × IsEnvironmentText text file cells × IsFirstOff (IsPoseOnMap file) from.start from.goal end
+
+-- the same of a grid, whose states are its cells, row by row
+abbrev pub IsOnGrid : NavEnvironment → Square → Type 0
+IsOnGrid e c = (c.x < e.width) × (c.y < e.height)
+
+abbrev pub square_state : (width : ℕ) → Square → ℕ
+square_state width c = c.y * width + c.x
+
+abbrev pub posed_on_grid : GridSources → NavEnvironment → NavEnvironment
+posed_on_grid from e = record e {
+  start = option_map_or (square_state e.width) from.start e.start;
+  end = option_map_or (square_state e.width) from.goal e.end;
+}
+
+abbrev pub IsGridFor : GridSources → List ℕ → NavEnvironment → List ℕ → Type 0
+IsGridFor from text e cells = (file : NavEnvironment) × IsGridText text file cells × AreOn (IsOnGrid file) from.start from.goal × (e ≡ posed_on_grid from file)
+
+abbrev pub HasGridEndOff : GridSources → List ℕ → PathEnd → Type 0
+HasGridEndOff from text end = (file : NavEnvironment) × (cells : List ℕ) × IsGridText text file cells × IsFirstOff (IsOnGrid file) from.start from.goal end
+
+-- ---- change files
 
 -- what a change file is read for: the map, and, where its lines can say where the robot is, the number of headings
 pub record Scope : Type 0 where

@@ -23,8 +23,8 @@ pub use sbpl_desk::{Desk, MemoryDesk, ReadStop, RealDesk, Trouble, WriteStop};
 
 // Of `sbpl_cfg`.
 pub use sbpl_report::{
-    Env, EnvFault, Grid, Place, cell_at, environment_message, heading_at, place_at, print_env,
-    read_env, texts_are_environments_or_faulty,
+    Env, EnvFault, Grid, Place, Pose, cell_at, environment_message, heading_at, place_at,
+    print_env, read_env, texts_are_environments_or_faulty,
 };
 
 // Of `sbpl_mprim`.
@@ -58,7 +58,7 @@ pub use sbpl_replan::{Back, FromStart, Reversed, paths_turn_round, turned_round}
 
 // Of `sbpl_nav2d`.
 pub use sbpl_nav2d::{
-    Nav, Octile, grid_message, read_nav, texts_are_grids_or_faulty, worlds_are_grids,
+    Nav, NavEnv, Octile, grid_message, read_nav, texts_are_grids_or_faulty, worlds_are_grids,
 };
 
 // Of `sbpl_search`.
@@ -98,14 +98,14 @@ pub use sbpl_replan::Session;
 
 // Of `sbpl_job`.
 pub use sbpl_report::{
-    Asked, CheckJob, Command, DemoJob, Job, JobFault, LabelForm, Name, NavCheckJob, NavJob,
-    Outputs, PlanJob, Planner, SearchJob, Setting, Sources, read_asked, read_job,
+    Asked, CheckJob, Command, DemoJob, GridSources, Job, JobFault, LabelForm, Name, NavCheckJob,
+    NavJob, Outputs, PlanJob, Planner, SearchJob, Setting, Sources, Square, read_asked, read_job,
     words_part_into_forms,
 };
 
 // Of `sbpl_report`.
 pub use sbpl_report::{
-    Ended, Input, JobStop, PathRecord, PathStep, PlanRecord, Raised, Refusal, ReportPose, Status,
-    Steps, TraceLine, Traced, demo_line, fault_line, flaw_line, holds_line, incumbent_line,
+    Ended, Input, JobStop, PathEnd, PathRecord, PathStep, PlanRecord, Raised, Refusal, ReportPose,
+    Status, Steps, TraceLine, Traced, demo_line, fault_line, flaw_line, holds_line, incumbent_line,
     labels_of, labels_text, listing_at, plan_line, refusal_line, trace_of, traced_passes,
 };

@@ -31,19 +31,20 @@ input_name (job.Plan j) i = file_name j.sources.env (Some j.sources.prims) j.cha
 input_name (job.Check j) i = file_name j.sources.env (Some j.sources.prims) j.changes (Some j.labels) i
 input_name (job.Sweep from) i = file_name from.env (Some from.prims) None None i
 input_name (job.Demo d) i = []
-input_name (job.Nav j) i = file_name j.env None j.changes None i
-input_name (job.NavCheck j) i = file_name j.env None j.changes (Some j.labels) i
+input_name (job.Nav j) i = file_name j.sources.env None j.changes None i
+input_name (job.NavCheck j) i = file_name j.sources.env None j.changes (Some j.labels) i
 
 -- the statuses of refusals
 abbrev pub refusal_status : Refusal → ℕ
 refusal_status (refusal.Environment _) = 3
 refusal_status (refusal.Grid _) = 3
+refusal_status (refusal.OffMap _) = 2
 refusal_status (refusal.Changes _) = 5
 refusal_status (refusal.Read _) = 6
 refusal_status (refusal.Length _) = 8
 refusal_status _ = 4
 
--- the line for words that name no job
+-- the line for words that name no job, or an end of the path that is off the map
 abbrev pub words_text : List ℕ
 words_text = codes "refused words\n"
 
@@ -59,6 +60,7 @@ unread_text why name = codes "refused " ++ (why ++ (codes " " ++ (name ++ line_f
 abbrev pub refusal_text : Job → Refusal → List ℕ
 refusal_text j (refusal.Environment f) = fault_text (codes "environment") (environments.number_of f) (environments.name_of f) (environments.place_of f)
 refusal_text j (refusal.Grid f) = fault_text (codes "environment") (environments.number_of f) (environments.name_of f) (environments.place_of f)
+refusal_text j (refusal.OffMap e) = words_text
 refusal_text j (refusal.Primitives f) = fault_text (codes "primitives") (primitives.number_of f) (primitives.name_of f) (primitives.place_of f)
 refusal_text j (refusal.TooWide i) = fault_text (codes "primitives") 14 (codes "TooWide") i
 refusal_text j (refusal.TooDear i) = fault_text (codes "primitives") 15 (codes "TooDear") i

@@ -17,7 +17,7 @@ pub use check_lines::{flaw_line, holds_line};
 pub use ended::Ended;
 pub use labels::{labels_of, labels_text};
 pub use record::{PathRecord, PathStep, PlanRecord, Raised, ReportPose, Steps, TraceLine};
-pub use refusal::{Input, JobStop, Refusal};
+pub use refusal::{Input, JobStop, PathEnd, Refusal};
 pub use refusal_lines::{fault_line, refusal_line};
 pub use report::{demo_line, incumbent_line, plan_line};
 pub use status::Status;
@@ -36,8 +36,8 @@ pub use sbpl_plan::{ListOf, Piece, push_all, push_bytes};
 
 // Of `sbpl_cfg`.
 pub use sbpl_cost::{
-    Env, EnvFault, Grid, Place, cell_at, environment_message, heading_at, place_at, print_env,
-    read_env, texts_are_environments_or_faulty,
+    Env, EnvFault, Grid, Place, Pose, cell_at, environment_message, heading_at, place_at,
+    print_env, read_env, texts_are_environments_or_faulty,
 };
 
 // Of `sbpl_mprim`.
@@ -85,7 +85,7 @@ pub use sbpl_plan::{
 
 // Of `sbpl_job`.
 pub use sbpl_job::{
-    Asked, CheckJob, Command, DemoJob, Job, JobFault, LabelForm, Name, NavCheckJob, NavJob,
-    Outputs, PlanJob, Planner, SearchJob, Setting, Sources, read_asked, read_job,
+    Asked, CheckJob, Command, DemoJob, GridSources, Job, JobFault, LabelForm, Name, NavCheckJob,
+    NavJob, Outputs, PlanJob, Planner, SearchJob, Setting, Sources, Square, read_asked, read_job,
     words_part_into_forms,
 };

@@ -18,6 +18,13 @@ pub enum Input {
     Labels,
 }
 
+/// An end of a path.
+#[derive(Clone, Copy)]
+pub enum PathEnd {
+    Start,
+    Goal,
+}
+
 /// Why a job is refused, once the words have named it.
 #[derive(Clone, Copy)]
 pub enum Refusal {
@@ -25,6 +32,8 @@ pub enum Refusal {
     Environment(EnvFault),
     /// The environment file of a grid has a fault.
     Grid(EnvFault),
+    /// The start or the goal that the words give is off the map.
+    OffMap(PathEnd),
     /// The primitive file has a fault.
     Primitives(PrimFault),
     /// The primitive at this place of the file sweeps too many cells, or too many with those before it.
@@ -46,6 +55,7 @@ impl Refusal {
     {
         match self {
             Refusal::Environment(_) | Refusal::Grid(_) => Status::EnvironmentRefused,
+            Refusal::OffMap(_) => Status::WordsRefused,
             Refusal::Primitives(_) | Refusal::TooWide(_) | Refusal::TooDear(_) => {
                 Status::PrimitivesRefused
             }

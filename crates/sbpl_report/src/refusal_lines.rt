@@ -103,10 +103,10 @@ fn check_name(job: &CheckJob, input: Input) -> &str
 
 /// The name of a file that a job `nav` reads; empty where it reads none.
 fn nav_name(job: &NavJob, input: Input) -> &str
-    ensures name { result.now ≡ file_name job.now.env None job.now.changes None input }
+    ensures name { result.now ≡ file_name job.now.sources.env None job.now.changes None input }
 {
     match input {
-        Input::Environment => job.env.as_str(),
+        Input::Environment => job.sources.env.as_str(),
         Input::Changes => name_or_nothing(&job.changes),
         Input::Primitives | Input::Labels => "",
     }
@@ -114,10 +114,10 @@ fn nav_name(job: &NavJob, input: Input) -> &str
 
 /// The name of a file that a job `navcheck` reads; empty where it reads none.
 fn nav_check_name(job: &NavCheckJob, input: Input) -> &str
-    ensures name { result.now ≡ file_name job.now.env None job.now.changes (Some job.now.labels) input }
+    ensures name { result.now ≡ file_name job.now.sources.env None job.now.changes (Some job.now.labels) input }
 {
     match input {
-        Input::Environment => job.env.as_str(),
+        Input::Environment => job.sources.env.as_str(),
         Input::Primitives => "",
         Input::Changes => name_or_nothing(&job.changes),
         Input::Labels => job.labels.as_str(),
@@ -157,6 +157,7 @@ fn push_refusal(out: &mut Vec<u8>, job: &Job, refusal: &Refusal) -> Result<(), N
             fault.name(),
             fault.place() as u64,
         ),
+        Refusal::OffMap(_) => push_all(out, &[Bytes(b"refused words\n")]),
         Refusal::Primitives(fault) => push_fault(
             out,
             b"primitives",

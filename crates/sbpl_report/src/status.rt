@@ -10,7 +10,7 @@ pub enum Status {
     Done,
     /// A section of labels has a flaw.
     FlawFound,
-    /// The words name no job.
+    /// The words name no job, or a start or a goal that is off the map.
     WordsRefused,
     /// The environment file has a fault.
     EnvironmentRefused,

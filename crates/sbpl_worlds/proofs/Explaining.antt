@@ -44,6 +44,7 @@ explained_before held later names (stop.Refused r m) same told = by_refusal r to
       first = on.first;
       message = on.message;
     }
+    by_refusal (refusal.OffMap end) plain = plain
     by_refusal (refusal.TooWide i) plain = plain
     by_refusal (refusal.TooDear i) plain = plain
     by_refusal (refusal.Read i) plain = plain

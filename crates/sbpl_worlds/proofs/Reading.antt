@@ -1,9 +1,10 @@
 -- What a desk keeps over two readings, and stops that are handed on.
 use Rattle.std.proofs.Common.{◌≡◌, ℕ, List, Option, Some, None, Result, Ok, Err, IfErr, ◌∙◌, sym, subst, arith, inl, inr}
-use Rattle.sbpl_promises.specs.sbpl_cfg.Environment.{Environment}
+use Rattle.sbpl_promises.specs.sbpl_cfg.Environment.{Environment, IsPoseOnMap}
 use Rattle.sbpl_promises.specs.sbpl_desk.Desk.{NoneFalls, Stays}
 use Rattle.sbpl_promises.specs.sbpl_mprim.Primitives.{Primitives}
 use Rattle.sbpl_promises.specs.sbpl_job.declared.job.Sources.{Sources}
+use Rattle.sbpl_promises.specs.sbpl_report.declared.refusal.PathEnd.{PathEnd}
 use Rattle.sbpl_promises.specs.sbpl_report.declared.refusal.Input.TheVariants as input
 use Rattle.sbpl_promises.specs.sbpl_report.declared.refusal.Refusal.{Refusal}
 use Rattle.sbpl_promises.specs.sbpl_report.declared.refusal.Refusal.TheVariants as refusal
@@ -11,9 +12,9 @@ use Rattle.sbpl_promises.specs.sbpl_report.declared.refusal.JobStop.{JobStop}
 use Rattle.sbpl_promises.specs.sbpl_report.declared.refusal.JobStop.TheVariants as stop
 use Rattle.sbpl_promises.specs.Causes.{AtName, ChangesStopFor, EarlyStopsFor, IsCause, IsChangesCause, IsChangesRefused, IsDearStop}
 use Rattle.sbpl_promises.specs.Causes.{IsFaultyChanges, IsReadText, IsTooDearJob, IsTooLong, IsWideStop, LatticeStopsFor, PrimitivesStopFor}
-use Rattle.sbpl_promises.specs.Causes.{ReadsUpdates, ReadsEnvironment, ReadsPrimitives}
+use Rattle.sbpl_promises.specs.Causes.{IsEndRefused, IsOffStop, ReadsUpdates, ReadsEnvironment, ReadsPrimitives}
 use Rattle.sbpl_promises.specs.WorldFiles.{WorldFiles}
-use Rattle.sbpl_promises.specs.Texts.{Scope}
+use Rattle.sbpl_promises.specs.Texts.{IsEnvironmentText, IsFirstOff, Scope}
 use Rattle.sbpl_promises.specs.declared.updates.Updates.{Updates}
 use Rattle.sbpl_promises.specs.Writing.{DeskState, Names, ReadFailed, ReadsOnly, Told}
 
@@ -73,6 +74,27 @@ primitives_stop s t u from e cells (stop.Refused r m) says same cause = by_refus
       holds = subst (λ (o : Option (List ℕ)). IsTooLong o) (same.held from.prims) long;
     }
     by_refusal _ none = absurd none
+
+-- a stop for an end that is off the map is one, where the environment file was read before
+pub end_stop : (s u : DeskState) (from : Sources) (text : List ℕ) (file : Environment) (cells : List ℕ) (x : JobStop)
+    → IsReadText (s.held from.env) text → IsEnvironmentText text file cells
+    → IsOffStop (IsPoseOnMap file) from.start from.goal x → LatticeStopsFor s u from x
+end_stop s u from text file cells x read stands off = by_stop x off.refused
+  where
+    by_stop : (x : JobStop) → IsEndRefused off.end x → LatticeStopsFor s u from x
+    by_stop stop.NoMemory refused = tt
+    by_stop (stop.Refused (refusal.OffMap e) m) (is, plain) = record {
+      text = text;
+      read = read;
+      off = (
+        file,
+        cells,
+        stands,
+        subst (λ (o : PathEnd). IsFirstOff (IsPoseOnMap file) from.start from.goal o) (sym is)
+            off.off,
+      );
+    }
+    by_stop (stop.Refused _ m) refused = absurd refused
 
 -- a stop for primitives that are too wide is one, where an environment and these primitives were read before
 pub wide_stop : (s u : DeskState) (from : Sources) (e : Environment) (cells : List ℕ) (ps : Primitives) (x : JobStop)

@@ -2,6 +2,7 @@
 
 ghost use Rattle.std.specs.Prelude.{◌≡◌, ◌≢◌, ◌≤◌, ◌^◌, [], true, None, length, IfOk, IfErr};
 ghost use Rattle.sbpl_promises.specs.LatticeSite.{lattice_site};
+ghost use Rattle.sbpl_promises.specs.sbpl_job.Jobs.{AreSources};
 ghost use Rattle.sbpl_promises.specs.sbpl_lists.Messages.{IsPlainMessage};
 ghost use Rattle.sbpl_promises.specs.Causes.{ChangesStopFor, IsChangesRefused, IsEnvironmentRefused, IsPrimitivesRefused};
 ghost use Rattle.sbpl_promises.specs.Causes.{IsReadText, IsUnread, LatticeStopsFor, PrimitivesStopFor, AreUpdatesIn};
@@ -12,6 +13,7 @@ ghost use Rattle.sbpl_promises.specs.sbpl_map.ChangeText.{AreOnMap};
 ghost use Rattle.sbpl_promises.specs.sbpl_map.declared.fault.ChangeFault.TheVariants as ChangeFaults;
 ghost use Rattle.sbpl_promises.specs.Writing.{ReadsOnly};
 
+use crate::ends::posed;
 use sbpl_promises::{
     ChangeFault, Changes, Desk, Env, EnvFault, Grid, Input, JobStop, Lattice, ListOf, Map, Message,
     Name, NoMemory, PrimFault, Prims, ReadStop, Refusal, Sources, Trouble, Updates,
@@ -80,19 +82,22 @@ fn judge_environment(alloc: Global, name: &Name, text: &[u8]) -> Result<(Env, Gr
     }
 }
 
-/// The environment file.
+/// The environment file, with the start and the goal of the words in place of its own.
 pub(crate) fn read_environment<D: Desk>(
     alloc: Global,
     from: &Sources,
     desk: &mut D,
 ) -> Result<(Env, Grid), JobStop>
+    requires ranges { AreSources from.now }
     ensures says { IfOk result (λ x. ReadsEnvironment (D.state desk.old).held from.now x.0 x.1) }
     ensures stop { IfErr result (LatticeStopsFor (D.state desk.old) (D.state desk.new) from.now) }
     ensures explained { IfErr result (ExplainsLattice (D.state desk.old).held from.now) }
     ensures frame { ReadsOnly (D.state desk.old) (D.state desk.new) }
 {
     let text = read_file(alloc, &from.env, Input::Environment, desk)?;
-    judge_environment(alloc, &from.env, text.as_slice())
+    let (file, grid) = judge_environment(alloc, &from.env, text.as_slice())?;
+    let env = posed(alloc, from, &file)?;
+    Ok((env, grid))
 }
 
 /// The primitives that the text of the file of this name stands for, for this environment.

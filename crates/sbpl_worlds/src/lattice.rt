@@ -1,9 +1,10 @@
 //! The lattice that files stand for, and the batches of its changes.
 
-ghost use Rattle.std.specs.Prelude.{◌≤◌, ◌^◌, IfErr, IfOk};
+ghost use Rattle.std.specs.Prelude.{IfErr, IfOk};
 ghost use Rattle.sbpl_promises.specs.sbpl_cost.World.{IsWorld};
 ghost use Rattle.sbpl_promises.specs.sbpl_sweep.Swept.{AreSweepsOf};
 ghost use Rattle.sbpl_promises.specs.sbpl_sweep.Widths.{NoneTooWide};
+ghost use Rattle.sbpl_promises.specs.sbpl_job.Jobs.{AreSources};
 ghost use Rattle.sbpl_promises.specs.sbpl_lists.Messages.{IsPlainMessage};
 ghost use Rattle.sbpl_promises.specs.Explained.{ExplainsUpdates, ExplainsLattice};
 ghost use Rattle.sbpl_promises.specs.Causes.{AreRead, EarlyStopsFor, IsDearStop, IsWideStop, LatticeStopsFor, ReadsWorld};
@@ -35,7 +36,7 @@ fn size_message(alloc: Global, name: &str, what: &str) -> Result<Message, NoMemo
 
 /// The sweeps of the primitives of these files for the robot's radius.
 fn make_sweeps(alloc: Global, from: &Sources, prims: &Prims) -> Result<Sweeps, JobStop>
-    requires radius { from.now.radius ≤ 10 ^ 12 }
+    requires ranges { AreSources from.now }
     ensures made { IfOk result (AreSweepsOf prims.now from.now.radius) }
     ensures narrow { IfOk result (λ _. NoneTooWide prims.now from.now.radius) }
     ensures stop { IfErr result (IsWideStop from.now.prims prims.now from.now.radius) }
@@ -66,7 +67,7 @@ pub fn read_lattice<D: Desk>(
     from: &Sources,
     desk: &mut D,
 ) -> Result<Lattice, JobStop>
-    requires range { from.now.radius ≤ 10 ^ 12 }
+    requires ranges { AreSources from.now }
     ensures says { IfOk result (ReadsWorld (D.state desk.old).held from.now) }
     ensures kept { IfOk result IsWorld }
     ensures stop { IfErr result (LatticeStopsFor (D.state desk.old) (D.state desk.new) from.now) }
@@ -92,7 +93,7 @@ pub fn read_updates<D: Desk>(
     moving: bool,
     desk: &mut D,
 ) -> Result<(Lattice, Updates), JobStop>
-    requires range { from.now.radius ≤ 10 ^ 12 }
+    requires ranges { AreSources from.now }
     ensures updates { IfOk result (λ x. AreRead (D.state desk.old).held (lattice_files from.now moving) changes.now x.0 x.1) }
     ensures stop { IfErr result (EarlyStopsFor (D.state desk.old) (D.state desk.new) (lattice_files from.now moving) changes.now) }
     ensures explained { IfErr result (ExplainsUpdates (D.state desk.old).held from.now changes.now) }

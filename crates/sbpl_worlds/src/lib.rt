@@ -4,6 +4,7 @@
 
 mod cells;
 mod drawn;
+mod ends;
 mod files;
 mod grid;
 mod lattice;
@@ -84,8 +85,8 @@ pub use sbpl_promises::Session;
 
 // Of `sbpl_job`.
 pub use sbpl_promises::{
-    Asked, CheckJob, Command, DemoJob, Job, JobFault, LabelForm, Name, NavCheckJob, NavJob,
-    Outputs, PlanJob, Planner, SearchJob, Setting, Sources, read_asked, read_job,
+    Asked, CheckJob, Command, DemoJob, GridSources, Job, JobFault, LabelForm, Name, NavCheckJob,
+    NavJob, Outputs, PlanJob, Planner, SearchJob, Setting, Sources, Square, read_asked, read_job,
 };
 
 // Of `sbpl_report`.

@@ -11,7 +11,7 @@ use Rattle.sbpl_jobs.proofs.nav_job.read_nav_check.Goals as goal
 pub returns-in-Err-clause-stop : goal.returns-in-Err-clause-stop
 returns-in-Err-clause-stop g c = record {
   cause =
-      early_stop (g.D.Desk.state c.args.desk.now) (g.D.Desk.state c.read_grid_updates.new.desk) (grid_files c.args.job.now.env)
+      early_stop (g.D.Desk.state c.args.desk.now) (g.D.Desk.state c.read_grid_updates.new.desk) (grid_files c.args.job.now.sources)
       c.args.job.now.changes c.args.job.now.labels c.in-Err.stop c.in-Err.ensures.stop;
   told = c.in-Err.ensures.explained (Some c.args.job.now.labels);
 }
@@ -25,7 +25,7 @@ returns-in-Err-read_file-clause-stop g c =
     let names = input_name (job.NavCheck c.args.job.now) in
     record {
       cause =
-          labels_stop first then last (grid_files c.args.job.now.env) c.args.job.now.changes c.args.job.now.labels c.in-Ok.read.0
+          labels_stop first then last (grid_files c.args.job.now.sources) c.args.job.now.changes c.args.job.now.labels c.in-Ok.read.0
           c.in-Ok.read.1 c.in-Err-read_file.stop updates.says updates.updates_are c.in-Ok.ensures.frame
           c.in-Err-read_file.ensures.stop;
       told =

@@ -14,7 +14,7 @@ use Rattle.sbpl_jobs.proofs.nav_job.run_nav.Goals as goal
 pub returns-clause-ends : goal.returns-clause-ends
 returns-clause-ends g c =
     let e = as_told grid_site false c.requires.range.1 c.make_plans-status.ensures.ends in
-    planning_ending _ _ _ _ (job.Nav c.args.job.now) c.args.job.now.env _ _ (ap number_of c.planned.ensures.status)
+    planning_ending _ _ _ _ (job.Nav c.args.job.now) c.args.job.now.sources.env _ _ (ap number_of c.planned.ensures.status)
     (rw c.as_str.ensures.name at c.planned.ensures.told) (λ plain. plain) (plans_end e.all _ e.ends)
     (ended _ (g.D.Desk.state c.read_grid_updates.new.desk) _ _ _ (job.Nav c.args.job.now)
     (Planned e.records e.all (entries_of c.args.live.now) e.broken) _ refl

@@ -18,7 +18,7 @@ returns-clause-ends g c =
     let ends = c.check_text-ending.ensures.ends in
     let case =
     case_of grid_site w updates c.ends-start.result.0 c.ends-start.result.1 in
-    let files = grid_files c.args.job.now.env in
+    let files = grid_files c.args.job.now.sources in
     let checked : IsChecked (g.D.Desk.state c.args.desk.now).held files c.args.job.now.changes c.args.job.now.labels
     (to_in case) ends.outcomes ends.end = record {
       world = w;

@@ -15,7 +15,7 @@ pub returns-in-Err-clause-stop : goal.returns-in-Err-clause-stop
 returns-in-Err-clause-stop g c =
     let mid = g.D.Desk.state c.read_grid.new.desk in
     let end = g.D.Desk.state c.read_still.new.desk in
-    updates_stop _ mid end (grid_files c.args.env.now) c.args.changes.now c.in_ok-nav.nav c.in-Err.stop
+    updates_stop _ mid end (grid_files c.args.from.now) c.args.changes.now c.in_ok-nav.nav c.in-Err.stop
     c.in_ok-nav.ensures.says c.in_ok-nav.ensures.frame
     (subst (λ (m : CellMap). ChangesStopFor mid end c.args.changes.now (still_scope m) c.in-Err.stop)
     c.map.ensures.map c.in-Err.ensures.stop)
@@ -28,7 +28,7 @@ returns-in_err-nav-clause-explained g c =
 pub returns-in-Err-clause-explained : goal.returns-in-Err-clause-explained
 returns-in-Err-clause-explained g c = λ labels.
     explained_before (g.D.Desk.state c.args.desk.now).held (g.D.Desk.state c.read_grid.new.desk).held
-    (file_name c.args.env.now None c.args.changes.now labels) c.in-Err.stop c.in_ok-nav.ensures.frame.held (c.in-Err.ensures.explained c.args.env.now None labels)
+    (file_name c.args.from.now.env None c.args.changes.now labels) c.in-Err.stop c.in_ok-nav.ensures.frame.held (c.in-Err.ensures.explained c.args.from.now.env None labels)
 
 pub returns-in-Ok-clause-updates : goal.returns-in-Ok-clause-updates
 returns-in-Ok-clause-updates g c =
