@@ -12,7 +12,9 @@ ghost use Rattle.sbpl_jobs.specs.sbpl_report.Statuses.{number_of};
 ghost use Rattle.sbpl_jobs.specs.sbpl_telling.Endings.{message_of};
 
 use sbpl_headline::promises_show_the_headline;
-use sbpl_jobs::{Board, Desk, Ending, Gate, LiveBoard, NoMemory, Publisher, Status, run_words};
+use sbpl_jobs::{
+    Board, Desk, Ending, Gate, LiveBoard, Meter, NoMemory, Publisher, Status, run_words,
+};
 use sbpl_laws::runs_keep_promises;
 use std::alloc::Global;
 use std::sync::Wait;
@@ -42,7 +44,8 @@ pub fn run_to_end<R: Threads + Wait + Sync, D: Desk, T: Gate + Sync>(
 {
     runs_keep_promises();
     promises_show_the_headline();
-    let mut live = LiveBoard::new(rt, board, publisher);
+    let meter = Meter::off();
+    let mut live = LiveBoard::new(rt, board, publisher, &meter);
     run_words(alloc, words, &mut live, desk, gate)
 }
 

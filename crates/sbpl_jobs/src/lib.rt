@@ -17,4 +17,4 @@ pub use sbpl_checks::{
     heading_at, print_env, print_prims, read_asked, read_env, read_job, read_prims, status_after,
 };
 pub use sbpl_message::told;
-pub use sbpl_plans::LiveBoard;
+pub use sbpl_plans::{LiveBoard, Meter};

@@ -3,18 +3,24 @@
 ghost use Rattle.std.specs.Prelude.{◌≡◌, ◌+◌, ◌^◌, ◌≤◌, ◌↔◌, IsTrue, IsFalse};
 ghost use Rattle.sbpl_labels.specs.Counts.{AreCounts, HasLeft, IsSpent};
 
+use crate::Meter;
 use std::marker::Model;
 
 /// The most expansions of a run.
 const RUN: u64 = 1 << 30;
 
+/// At which counts of a run a meter is set: at each multiple of this one. At each count, passes would be slower.
+const METERED: u64 = 64;
+
 /// How many expansions a plan may make, how many it has made, and how many the run has made. A run
 /// makes at most 2^30.
-#[derive(Debug, Drop)]
+#[derive(Drop)]
 pub struct Budget {
     per_plan: u64,
     plan: u64,
     run: u64,
+    /// Tells other threads the run's count. Contracts see nothing of it.
+    meter: Meter,
 }
 
 impl Model for Budget {
@@ -38,7 +44,16 @@ impl Budget {
             per_plan,
             plan: 0,
             run: 0,
+            meter: Meter::off(),
         }
+    }
+
+    /// Sets this meter to the run's count from now on, to the last multiple of 64.
+    pub fn meter_by(&mut self, meter: &Meter)
+        ensures same { self.new ≡ self.old }
+    {
+        meter.set(self.run);
+        self.meter = meter.share();
     }
 
     /// Begins a plan: its count is 0 and the run's stays.
@@ -72,5 +87,8 @@ impl Budget {
     {
         self.plan += 1;
         self.run += 1;
+        if self.run % METERED == 0 {
+            self.meter.set(self.run);
+        }
     }
 }

@@ -4,6 +4,7 @@
 mod bound;
 mod budget;
 mod labels;
+mod meter;
 mod pass_end;
 mod row;
 mod rows;
@@ -13,6 +14,7 @@ mod ways;
 pub use bound::bound_of;
 pub use budget::Budget;
 pub use labels::Labels;
+pub use meter::Meter;
 pub use pass_end::PassEnd;
 pub use sbpl_fixed::{NoMemory, ceil_root};
 pub use sbpl_graph::{FAR, Graph, Guide, Zero, bound_holds, none_holds};

@@ -10,4 +10,5 @@ mod task;
 
 pub use live_board::LiveBoard;
 pub use planners::make_plans;
+pub use sbpl_worlds::Meter;
 pub use task::Task;

@@ -16,7 +16,7 @@ use crate::plan_record::make_record;
 use crate::task::{PlanStart, Task};
 use sbpl_telling::{Status, Telling, status_after, write_last};
 use sbpl_worlds::{
-    Desk, NoMemory, Search, Session, Traced, Workspace, WriteStop, place_in,
+    Desk, Meter, NoMemory, Search, Session, Traced, Workspace, WriteStop, place_in,
     writes_lead_to_the_next_map,
 };
 use std::alloc::Global;
@@ -56,11 +56,13 @@ where
 }
 
 /// A session on this world for the plans of a task, whose first plan begins with the labels of a search that has made no pass yet.
+/// The meter shows its expansions.
 fn open_session<W: Workspace + Drop, S: Search<W, W::Best> + Drop>(
     alloc: Global,
     world: W,
     search: S,
     task: &Task,
+    meter: &Meter,
 ) -> Result<Session<W, W::Best, S>, NoMemory>
     requires task { CanBeMade W.Workspace world task.now }
     requires new { IsNewSearch S.meaning W.Workspace world task.now.how.now task.now.start task.now.goal
@@ -72,7 +74,9 @@ fn open_session<W: Workspace + Drop, S: Search<W, W::Best> + Drop>(
     ensures begun { IfOk result (λ s.
         GoesOnFrom S.meaning W.Workspace world task.now.start task.now.goal None (standing_of s)) }
 {
-    Session::open(alloc, world, search, task.how.budget)
+    let mut session = Session::open(alloc, world, search, task.how.budget)?;
+    session.meter_by(meter);
+    Ok(session)
 }
 
 /// Makes and tells the plans of a task on this world, while its map changes batch by batch and the start moves where it
@@ -106,7 +110,7 @@ where
 {
     W::is_terrain();
     writes_lead_to_the_next_map();
-    let mut session = match open_session(alloc, world, search, task) {
+    let mut session = match open_session(alloc, world, search, task, live.meter) {
         Ok(session) => session,
         Err(NoMemory) => return Status::NoMemory,
     };

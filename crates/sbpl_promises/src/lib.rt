@@ -61,6 +61,9 @@ pub use sbpl_nav2d::{
     Nav, NavEnv, Octile, grid_message, read_nav, texts_are_grids_or_faulty, worlds_are_grids,
 };
 
+// Of `sbpl_labels`.
+pub use sbpl_replan::Meter;
+
 // Of `sbpl_search`.
 pub use sbpl_report::Search;
 

@@ -14,7 +14,7 @@ ghost use Rattle.sbpl_replan.specs.Replanning.{IsMoved, inquiry, standing_of};
 
 use crate::change::change;
 use sbpl_heur::{Best, Heuristic, Lattice, Terrain, Write};
-use sbpl_plan::{Ask, Budget, Inquiry, Labels, NoMemory, Observer, Planned, Search, plan};
+use sbpl_plan::{Ask, Budget, Inquiry, Labels, Meter, NoMemory, Observer, Planned, Search, plan};
 use std::alloc::Global;
 use std::marker::Model;
 
@@ -74,6 +74,13 @@ impl<W: Terrain + Drop, H: Heuristic<W>, S: Search<W, H> + Drop> Session<W, H, S
             budget: Budget::new(budget),
             touched: Vec::new(alloc),
         })
+    }
+
+    /// Sets this meter from now on to how many states the plans have expanded so far, while a plan goes on too.
+    pub fn meter_by(&mut self, meter: &Meter)
+        ensures same { self.new ≡ self.old }
+    {
+        self.budget.meter_by(meter);
     }
 
     /// What is planned on, with its present map.

@@ -53,6 +53,9 @@ pub use sbpl_promises::Reversed;
 // Of `sbpl_nav2d`.
 pub use sbpl_promises::{Nav, Octile};
 
+// Of `sbpl_labels`.
+pub use sbpl_promises::Meter;
+
 // Of `sbpl_search`.
 pub use sbpl_promises::Search;
 

@@ -1,6 +1,6 @@
 //! The program, run on the words of a line.
 
-use sbpl_cli::{Board, Desk, LiveBoard, NoGate, RealDesk, Status, answer};
+use sbpl_cli::{Board, Desk, LiveBoard, Meter, NoGate, RealDesk, Status, answer};
 use std::alloc::AllocError;
 use std::io;
 use std::rt::Files;
@@ -31,7 +31,8 @@ pub(crate) fn answer_at<R: AllocGlobal + Threads + Wait + Sync, D: Desk>(
     let Ok((board, mut publisher)) = Board::new(rt.alloc()) else {
         return Status::NoMemory.number();
     };
-    let mut live = LiveBoard::new(rt, &board, &mut publisher);
+    let meter = Meter::off();
+    let mut live = LiveBoard::new(rt, &board, &mut publisher, &meter);
     answer(
         rt.alloc(),
         words.as_slice(),

@@ -4,7 +4,8 @@ ghost use Rattle.std.specs.Prelude.{◌≡◌};
 ghost use Rattle.sbpl_plan.specs.sbpl_labels.Marks.{states_of};
 
 use crate::table::{LOOP, row};
-use sbpl_plan::{Budget, FAR, Guide, Labels, Zero, bound_holds, bound_of, none_holds};
+use sbpl_plan::{Budget, FAR, Guide, Labels, Meter, Zero, bound_holds, bound_of, none_holds};
+use std::alloc::Global;
 use std::test::Fail;
 
 /// The labels of state 1.
@@ -78,11 +79,26 @@ fn is_counted() -> bool {
     counts == ((0, false), (1, true), 0, 0)
 }
 
+/// Whether a meter is set to a run's expansions at once, and then at each 64th.
+fn is_metered(alloc: Global) -> bool {
+    let meter = Meter::new(alloc);
+    let mut budget = Budget::new(100);
+    budget.spend();
+    budget.meter_by(&meter);
+    let first = meter.read();
+    for _ in 0..98 {
+        if !budget.spent() {
+            budget.spend();
+        }
+    }
+    (first, meter.read(), Meter::off().read()) == (1, 64, 0)
+}
+
 #[test]
 fn labels_change(rt: HostRuntime) -> Result<(), Fail> {
     let mut labels = Labels::open(rt.alloc(), 3, 0)?;
     let are = are_as_wanted(&mut labels);
     drop(labels);
-    assert!(rt; are && are_bounds() && is_counted());
+    assert!(rt; are && are_bounds() && is_counted() && is_metered(rt.alloc()));
     Ok(())
 }

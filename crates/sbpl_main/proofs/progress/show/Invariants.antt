@@ -3,4 +3,4 @@ use Rattle.sbpl_main.proofs.progress.show.Given as goal
 
 -- the reader stays the board's
 abbrev pub invariant-loop : goal.invariant-loop
-invariant-loop g l = l.reader.board ≡ l.board
+invariant-loop g l = l.reader.board ≡ l.fn.progress.board.now
