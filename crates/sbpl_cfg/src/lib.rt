@@ -14,7 +14,8 @@ mod text;
 pub use env::{Env, Grid};
 pub use fault::EnvFault;
 pub use message::{
-    COST_WANTED, HEIGHT_WANTED, OBSTACLE_WANTED, START_WANTED, WIDTH_WANTED, environment_message,
+    COST_WANTED, HEIGHT_WANTED, OBSTACLE_WANTED, START_WANTED, WIDTH_WANTED, count_before,
+    environment_message, metres, on_map_text,
 };
 pub use place::{TAU, cell_at, heading_at, place_at, places_in_plain_words};
 pub use pose::{Place, Pose};
@@ -23,6 +24,7 @@ pub use read::read_env;
 pub use sbpl_fixed::{NoMemory, NumFault, read_whole};
 pub use sbpl_lists::{
     Before, Bits, ListOf, Message, Piece, Row, Runs, Word, is_named, message_at, message_on_line,
-    plain_message, push_all, push_line, push_lines, wanted_after, wanted_at, word_before,
+    plain_message, push_all, push_line, push_lines, value_before, wanted_after, wanted_at,
+    word_before,
 };
 pub use text::texts_are_environments_or_faulty;

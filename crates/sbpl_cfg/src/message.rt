@@ -5,9 +5,9 @@ ghost use Rattle.sbpl_cfg.specs.Faults.{place_of};
 ghost use Rattle.sbpl_lists.specs.Messages.{IsMessageAt};
 
 use crate::fault::EnvFault;
-use sbpl_fixed::NoMemory;
-use sbpl_lists::{Message, Row, message_at, wanted_at};
-use std::alloc::Global;
+use sbpl_fixed::{NoMemory, read_nano, read_whole};
+use sbpl_lists::{Message, Row, message_at, value_before, wanted_at};
+use std::alloc::{AllocError, Global};
 
 /// What must stand where the size of a map is told, and the costs of its cells, in the file of a grid too.
 pub const START_WANTED: &str = "discretization(cells): must stand here";
@@ -87,7 +87,7 @@ const ROWS: [Row; 11] = [
     },
 ];
 
-/// What must stand at the place of a fault.
+/// What must stand at the place of a fault, whatever the file says.
 fn wanted(text: &[u8], fault: &EnvFault) -> &'static str {
     match fault {
         EnvFault::Word(place)
@@ -97,9 +97,69 @@ fn wanted(text: &[u8], fault: &EnvFault) -> &'static str {
         EnvFault::Trailing(_) => "the file must end after the cost of the last cell",
         EnvFault::TooLarge(_) =>
             "width times height times the number of headings must be at most 8388608",
-        EnvFault::StartOff(_) => "the start must lie on the map",
-        EnvFault::EndOff(_) => "the end must lie on the map",
+        EnvFault::StartOff(_) | EnvFault::EndOff(_) => "the pose must lie on the map",
         EnvFault::NoMemory => "there must be memory",
+    }
+}
+
+/// Billionths of a metre as decimal metres.
+pub fn metres(alloc: Global, nano: i64) -> Result<String, AllocError> {
+    let sign = if nano < 0 { "-" } else { "" };
+    let nano = nano.unsigned_abs();
+    let text = format!(in alloc;
+        "{sign}{}.{:09}",
+        nano / 1_000_000_000,
+        nano % 1_000_000_000
+    )?;
+    let short = text.as_str().trim_end_matches('0').trim_end_matches('.');
+    String::from_str(alloc, short)
+}
+
+/// What is said of a pose of this name that is off a map of `width` times `height` cells of the side `cell`, in nanometres.
+pub fn on_map_text(
+    alloc: Global,
+    name: &str,
+    cell: i64,
+    width: u32,
+    height: u32,
+) -> Result<String, AllocError> {
+    let width = metres(alloc, cell.saturating_mul(i64::from(width)))?;
+    let height = metres(alloc, cell.saturating_mul(i64::from(height)))?;
+    format!(in alloc;
+        "{name} must lie on the map, where x goes from 0 to below {} and y from 0 to below {} metres",
+        width.as_str(),
+        height.as_str()
+    )
+}
+
+/// Number `k`, from 0, of the counts of cells after the first word of an environment file, of which a place lies further on.
+pub fn count_before(text: &[u8], place: usize, k: usize) -> u32 {
+    let count = value_before(text, place, "discretization(cells):", k);
+    match read_whole(count) {
+        Ok(count) if count > 0 && count <= i64::from(u32::MAX) => count as u32,
+        _ => 0,
+    }
+}
+
+/// What is said of a pose of this name at a place of an environment file, whose map it is off.
+fn off_map_text(
+    alloc: Global,
+    name: &str,
+    text: &[u8],
+    place: usize,
+) -> Result<String, AllocError> {
+    let cell = read_nano(value_before(text, place, "cellsize(meters):", 0)).unwrap_or(0);
+    let width = count_before(text, place, 0);
+    let height = count_before(text, place, 1);
+    on_map_text(alloc, name, cell, width, height)
+}
+
+/// What must stand at the place of a fault.
+fn wanted_text(alloc: Global, text: &[u8], fault: &EnvFault) -> Result<String, AllocError> {
+    match fault {
+        EnvFault::StartOff(place) => off_map_text(alloc, "the start", text, *place),
+        EnvFault::EndOff(place) => off_map_text(alloc, "the end", text, *place),
+        _ => String::from_str(alloc, wanted(text, fault)),
     }
 }
 
@@ -113,7 +173,7 @@ pub fn environment_message(
     // It has the line and the column of the fault's place, and shows the token that begins there.
     ensures message { IfOk result (λ m. IsMessageAt name.now text.now (place_of fault.now) m) }
 {
-    let wanted = wanted(text, fault);
-    let message = message_at(alloc, name, text, fault.place(), wanted)?;
+    let wanted = wanted_text(alloc, text, fault)?;
+    let message = message_at(alloc, name, text, fault.place(), wanted.as_str())?;
     Ok(message)
 }

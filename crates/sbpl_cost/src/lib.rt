@@ -30,9 +30,9 @@ pub use primitive_cost::{MOST_COST, cost_parts_are_least, prim_cost};
 pub use sbpl_sweep::{
     Cell, Env, EnvFault, Grid, ListOf, Message, NoMemory, Piece, Place, Pose, Prim, PrimFault,
     Prims, SweepFault, Sweeps, Word, cell_at, environment_message, few_poses_are_narrow,
-    heading_at, place_at, plain_message, primitives_message, print_env, print_prims, push_all,
-    push_line, push_lines, read_env, read_prims, texts_are_environments_or_faulty,
-    texts_are_primitives_or_faulty,
+    heading_at, metres, on_map_text, place_at, plain_message, primitives_message, print_env,
+    print_prims, push_all, push_line, push_lines, read_env, read_prims,
+    texts_are_environments_or_faulty, texts_are_primitives_or_faulty,
 };
 pub use sbpl_terrain::{
     ArcEnd, ChangeFault, Changes, Graph, Guide, Heuristic, Map, Moves, OffMap, Terrain, Write,

@@ -19,4 +19,4 @@ pub use number::{push_bytes, push_field, push_number};
 pub use piece::{Piece, push_all};
 pub use place::{filled_at, line_and_column};
 pub use runs::Runs;
-pub use wanted::{Before, Row, is_named, wanted_after, wanted_at, word_before};
+pub use wanted::{Before, Row, is_named, value_before, wanted_after, wanted_at, word_before};

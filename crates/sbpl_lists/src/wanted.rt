@@ -63,6 +63,30 @@ pub fn word_before(text: &[u8], place: usize) -> Before<'_> {
     Before { word, value, after }
 }
 
+/// The token number `k`, from 0, of those between the last token of this name before a place and the place; empty where there is none.
+pub fn value_before<'t>(text: &'t [u8], place: usize, name: &str, k: usize) -> &'t [u8] {
+    let mut value: &[u8] = &[];
+    let mut after: Option<usize> = None;
+    let mut at = 0;
+    while let Some(token) = next_token(text, at) {
+        if token.from >= place {
+            break;
+        }
+        let bytes = &text[token.from..token.to];
+        if is_named(bytes, name) {
+            value = &[];
+            after = Some(0);
+        } else if let Some(count) = after {
+            if count == k {
+                value = bytes;
+            }
+            after = Some(count.saturating_add(1));
+        }
+        at = token.to;
+    }
+    value
+}
+
 /// What must stand in a file with these rows after what stands before. Where none of its words does, its start is wanted.
 pub fn wanted_after(rows: &[Row], start: &'static str, before: &Before) -> &'static str {
     for row in rows {

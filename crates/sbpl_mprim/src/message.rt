@@ -5,9 +5,12 @@ ghost use Rattle.sbpl_mprim.specs.Faults.{place_of};
 ghost use Rattle.sbpl_cfg.specs.sbpl_lists.Messages.{IsMessageAt};
 
 use crate::fault::PrimFault;
-use sbpl_cfg::{Before, Message, Row, is_named, message_at, read_whole, wanted_after, word_before};
+use sbpl_cfg::{
+    Before, Message, Row, is_named, message_at, metres, read_whole, value_before, wanted_after,
+    word_before,
+};
 use sbpl_fixed::NoMemory;
-use std::alloc::Global;
+use std::alloc::{AllocError, Global};
 
 /// What must stand where no word stands before.
 const START: &str = "resolution_m: must stand here";
@@ -104,13 +107,6 @@ fn wanted_at_end(before: &Before) -> &'static str {
 /// What must stand at the place of a fault that only this file can have.
 fn wanted_of_primitive(fault: &PrimFault) -> &'static str {
     match fault {
-        PrimFault::Resolution(_) =>
-            "resolution_m must be the cellsize(meters) of the environment file",
-        PrimFault::Angles(_) =>
-            "numberofangles must be the number of headings of the environment file",
-        PrimFault::EndCell(_) =>
-            "the last pose must lie in the end cell, that of dx and dy of endpose_c",
-        PrimFault::EndHeading(_) => "theta of the last pose must round to the heading of endpose_c",
         PrimFault::NoPose(_) => "a primitive must have at least one pose",
         PrimFault::SameId(_) =>
             "primID must differ from that of each earlier primitive with the same startangle_c",
@@ -121,7 +117,7 @@ fn wanted_of_primitive(fault: &PrimFault) -> &'static str {
     }
 }
 
-/// What must stand at the place of a fault.
+/// What must stand at the place of a fault, whatever the files say.
 fn wanted(text: &[u8], fault: &PrimFault) -> &'static str {
     match fault {
         PrimFault::Word(place) => wanted_word(&word_before(text, *place)),
@@ -133,17 +129,71 @@ fn wanted(text: &[u8], fault: &PrimFault) -> &'static str {
     }
 }
 
-/// The message of a fault of a primitive file: where it is, what must stand there, and what was found.
+/// Which primitive a place is in, by its id and its heading.
+fn primitive_at(alloc: Global, text: &[u8], place: usize) -> Result<String, AllocError> {
+    let id = read_whole(value_before(text, place, "primID:", 0)).unwrap_or(0);
+    let from = read_whole(value_before(text, place, "startangle_c:", 0)).unwrap_or(0);
+    format!(in alloc; "primitive {id} at heading {from}")
+}
+
+/// Number `k` of the end of the primitive that a place is in.
+fn end_at(text: &[u8], place: usize, k: usize) -> i64 {
+    read_whole(value_before(text, place, "endpose_c:", k)).unwrap_or(0)
+}
+
+/// What must stand at the place of a fault, for an environment with this cell size in nanometres and this number of headings.
+fn wanted_text(
+    alloc: Global,
+    text: &[u8],
+    fault: &PrimFault,
+    cell: i64,
+    headings: u32,
+) -> Result<String, AllocError> {
+    match fault {
+        PrimFault::Resolution(_) => {
+            let cell = metres(alloc, cell)?;
+            format!(in alloc;
+                "resolution_m must be {}, the cellsize(meters) of the environment file",
+                cell.as_str()
+            )
+        }
+        PrimFault::Angles(_) => format!(in alloc;
+            "numberofangles must be {headings}, the number of headings of the environment file"
+        ),
+        PrimFault::EndCell(place) => {
+            let name = primitive_at(alloc, text, *place)?;
+            format!(in alloc;
+                "the last pose of {} must lie in its end cell, {} {} in endpose_c",
+                name.as_str(),
+                end_at(text, *place, 0),
+                end_at(text, *place, 1)
+            )
+        }
+        PrimFault::EndHeading(place) => {
+            let name = primitive_at(alloc, text, *place)?;
+            format!(in alloc;
+                "theta of the last pose of {} must round to its end heading, {} in endpose_c",
+                name.as_str(),
+                end_at(text, *place, 2)
+            )
+        }
+        _ => String::from_str(alloc, wanted(text, fault)),
+    }
+}
+
+/// The message of a fault of a primitive file for an environment with this cell size in nanometres and this number of headings: where it is, what must stand there, and what was found.
 pub fn primitives_message(
     alloc: Global,
     name: &str,
     text: &[u8],
     fault: &PrimFault,
+    cell: i64,
+    headings: u32,
 ) -> Result<Message, NoMemory>
     // It has the line and the column of the fault's place, and shows the token that begins there.
     ensures message { IfOk result (λ m. IsMessageAt name.now text.now (place_of fault.now) m) }
 {
-    let wanted = wanted(text, fault);
-    let message = message_at(alloc, name, text, fault.place(), wanted)?;
+    let wanted = wanted_text(alloc, text, fault, cell, headings)?;
+    let message = message_at(alloc, name, text, fault.place(), wanted.as_str())?;
     Ok(message)
 }

@@ -15,7 +15,7 @@ mod text;
 
 pub use env::NavEnv;
 pub use laws::{gaps_in_plain_words, grids_have_their_tails, worlds_are_grids};
-pub use message::grid_message;
+pub use message::{grid_message, on_grid_text};
 pub use nav::Nav;
 pub use octile::Octile;
 pub use read::read_nav;

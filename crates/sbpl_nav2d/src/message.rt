@@ -7,9 +7,9 @@ ghost use Rattle.sbpl_terrain.specs.sbpl_lists.Messages.{IsMessageAt};
 use sbpl_fixed::NoMemory;
 use sbpl_terrain::{
     COST_WANTED, EnvFault, HEIGHT_WANTED, Message, OBSTACLE_WANTED, Row, START_WANTED,
-    WIDTH_WANTED, message_at, wanted_at,
+    WIDTH_WANTED, count_before, message_at, wanted_at,
 };
-use std::alloc::Global;
+use std::alloc::{AllocError, Global};
 
 /// What must stand after each word of the environment file of a grid.
 const ROWS: [Row; 5] = [
@@ -46,7 +46,7 @@ const ROWS: [Row; 5] = [
     },
 ];
 
-/// What must stand at the place of a fault.
+/// What must stand at the place of a fault, whatever the file says.
 fn wanted(text: &[u8], fault: &EnvFault) -> &'static str {
     match fault {
         EnvFault::Word(place)
@@ -55,10 +55,33 @@ fn wanted(text: &[u8], fault: &EnvFault) -> &'static str {
         | EnvFault::Ended(place) => wanted_at(&ROWS, START_WANTED, text, *place),
         EnvFault::Trailing(_) => "the file must end after the cost of the last cell",
         EnvFault::TooLarge(_) => "width times height must be at most 8388608",
-        EnvFault::StartOff(_) => "the start must lie on the map",
-        EnvFault::EndOff(_) => "the end must lie on the map",
+        EnvFault::StartOff(_) | EnvFault::EndOff(_) => "the cell must lie on the map",
         EnvFault::NoMemory => "there must be memory",
     }
+}
+
+/// What is said of a cell of this name that is off a map of this size.
+pub fn on_grid_text(
+    alloc: Global,
+    name: &str,
+    width: u32,
+    height: u32,
+) -> Result<String, AllocError> {
+    format!(in alloc;
+        "{name} must lie on the map, where x goes from 0 to below {width} and y from 0 to below {height}"
+    )
+}
+
+/// What must stand at the place of a fault.
+fn wanted_text(alloc: Global, text: &[u8], fault: &EnvFault) -> Result<String, AllocError> {
+    let (name, place) = match fault {
+        EnvFault::StartOff(place) => ("the start", *place),
+        EnvFault::EndOff(place) => ("the end", *place),
+        _ => return String::from_str(alloc, wanted(text, fault)),
+    };
+    let width = count_before(text, place, 0);
+    let height = count_before(text, place, 1);
+    on_grid_text(alloc, name, width, height)
 }
 
 /// The message of a fault of the environment file of a grid: where it is, what must stand there, and what was found.
@@ -71,7 +94,7 @@ pub fn grid_message(
     // It has the line and the column of the fault's place, and shows the token that begins there.
     ensures message { IfOk result (λ m. IsMessageAt name.now text.now (place_of fault.now) m) }
 {
-    let wanted = wanted(text, fault);
-    let message = message_at(alloc, name, text, fault.place(), wanted)?;
+    let wanted = wanted_text(alloc, text, fault)?;
+    let message = message_at(alloc, name, text, fault.place(), wanted.as_str())?;
     Ok(message)
 }

@@ -23,8 +23,8 @@ pub use sbpl_desk::{Desk, MemoryDesk, ReadStop, RealDesk, Trouble, WriteStop};
 
 // Of `sbpl_cfg`.
 pub use sbpl_report::{
-    Env, EnvFault, Grid, Place, Pose, cell_at, environment_message, heading_at, place_at,
-    print_env, read_env, texts_are_environments_or_faulty,
+    Env, EnvFault, Grid, Place, Pose, cell_at, environment_message, heading_at, metres,
+    on_map_text, place_at, print_env, read_env, texts_are_environments_or_faulty,
 };
 
 // Of `sbpl_mprim`.
@@ -58,7 +58,8 @@ pub use sbpl_replan::{Back, FromStart, Reversed, paths_turn_round, turned_round}
 
 // Of `sbpl_nav2d`.
 pub use sbpl_nav2d::{
-    Nav, NavEnv, Octile, grid_message, read_nav, texts_are_grids_or_faulty, worlds_are_grids,
+    Nav, NavEnv, Octile, grid_message, on_grid_text, read_nav, texts_are_grids_or_faulty,
+    worlds_are_grids,
 };
 
 // Of `sbpl_labels`.

@@ -36,8 +36,8 @@ pub use sbpl_plan::{ListOf, Piece, push_all, push_bytes};
 
 // Of `sbpl_cfg`.
 pub use sbpl_cost::{
-    Env, EnvFault, Grid, Place, Pose, cell_at, environment_message, heading_at, place_at,
-    print_env, read_env, texts_are_environments_or_faulty,
+    Env, EnvFault, Grid, Place, Pose, cell_at, environment_message, heading_at, metres,
+    on_map_text, place_at, print_env, read_env, texts_are_environments_or_faulty,
 };
 
 // Of `sbpl_mprim`.

@@ -15,8 +15,8 @@ pub use heuristic::Heuristic;
 pub use sbpl_graph::{Graph, Guide};
 pub use sbpl_map::{
     COST_WANTED, ChangeFault, Changes, Env, EnvFault, Grid, HEIGHT_WANTED, Map, Message, Moves,
-    OBSTACLE_WANTED, OffMap, Row, START_WANTED, WIDTH_WANTED, Write, changes_message, message_at,
-    read_changes, read_env, read_moves, texts_are_changes_or_faulty, texts_are_moves_or_faulty,
-    wanted_at, writes_lead_to_the_next_map,
+    OBSTACLE_WANTED, OffMap, Row, START_WANTED, WIDTH_WANTED, Write, changes_message, count_before,
+    message_at, read_changes, read_env, read_moves, texts_are_changes_or_faulty,
+    texts_are_moves_or_faulty, wanted_at, writes_lead_to_the_next_map,
 };
 pub use terrain::Terrain;

@@ -8,8 +8,8 @@ ghost use Rattle.sbpl_promises.specs.Causes.{IsEndRefused, IsOffStop};
 ghost use Rattle.sbpl_promises.specs.Texts.{AreOn, IsOnGrid, posed, posed_on_grid, square_state};
 
 use sbpl_promises::{
-    Env, GridSources, JobStop, NavEnv, PathEnd, Pose, Refusal, Sources, Square, place_at,
-    plain_message,
+    Env, GridSources, JobStop, NavEnv, PathEnd, Pose, Refusal, Sources, Square, metres,
+    on_grid_text, on_map_text, place_at, plain_message,
 };
 use std::alloc::{AllocError, Global};
 
@@ -24,30 +24,14 @@ fn name_of(end: PathEnd) -> &'static str {
     }
 }
 
-/// Billionths of a metre as decimal metres.
-fn metres(alloc: Global, nano: i64) -> Result<String, AllocError> {
-    let sign = if nano < 0 { "-" } else { "" };
-    let nano = nano.unsigned_abs();
-    let text = format!(in alloc;
-        "{sign}{}.{:09}",
-        nano / 1_000_000_000,
-        nano % 1_000_000_000
-    )?;
-    let short = text.as_str().trim_end_matches('0').trim_end_matches('.');
-    String::from_str(alloc, short)
-}
-
 /// What is said of a pose that is off the map of an environment.
 fn off_map_text(alloc: Global, end: PathEnd, pose: &Pose, env: &Env) -> Result<String, AllocError> {
-    let width = metres(alloc, env.cell.saturating_mul(i64::from(env.width)))?;
-    let height = metres(alloc, env.cell.saturating_mul(i64::from(env.height)))?;
+    let wanted = on_map_text(alloc, name_of(end), env.cell, env.width, env.height)?;
     let x = metres(alloc, pose.x)?;
     let y = metres(alloc, pose.y)?;
     format!(in alloc;
-        "{} must lie on the map, where x goes from 0 to below {} and y from 0 to below {} metres, found {} and {}",
-        name_of(end),
-        width.as_str(),
-        height.as_str(),
+        "{}, found {} and {}",
+        wanted.as_str(),
         x.as_str(),
         y.as_str()
     )
@@ -60,14 +44,8 @@ fn off_grid_text(
     square: Square,
     env: &NavEnv,
 ) -> Result<String, AllocError> {
-    format!(in alloc;
-        "{} must lie on the map, where x goes from 0 to below {} and y from 0 to below {}, found {} and {}",
-        name_of(end),
-        env.width,
-        env.height,
-        square.x,
-        square.y
-    )
+    let wanted = on_grid_text(alloc, name_of(end), env.width, env.height)?;
+    format!(in alloc; "{}, found {} and {}", wanted.as_str(), square.x, square.y)
 }
 
 /// The refusal of an end that is off the map, of which this is said; or that memory ran out.

@@ -109,7 +109,14 @@ fn judge_primitives(alloc: Global, name: &Name, text: &[u8], env: &Env) -> Resul
         Ok(prims) => Ok(prims),
         Err(PrimFault::NoMemory) => Err(JobStop::NoMemory),
         Err(fault) => {
-            let message = primitives_message(alloc, name.as_str(), text, &fault)?;
+            let message = primitives_message(
+                alloc,
+                name.as_str(),
+                text,
+                &fault,
+                env.cell,
+                env.headings,
+            )?;
             Err(JobStop::Refused(Refusal::Primitives(fault), message))
         }
     }
