@@ -4,8 +4,8 @@ use Rattle.std.proofs.Common.{Result, Ok, Err, IfOk, inl, inr, refl, sym, ◌∙
 use Rattle.sbpl_checks.specs.sbpl_job.declared.job.Job.{Job}
 use Rattle.sbpl_checks.specs.sbpl_lists.Messages.{IsMessageAt, IsPlainMessage}
 use Rattle.sbpl_checks.specs.sbpl_promises.Causes.{CausesStand, IsFailedOn, IsJobCause}
-use Rattle.sbpl_checks.specs.sbpl_promises.Explained.{Explains, IsBlockExplained, IsFaultExplained, IsFlawExplained, IsLabelFaultExplained, IsTold}
-use Rattle.sbpl_checks.specs.sbpl_promises.Explained.{IsToldOf, nothing, of_block, of_flaw, of_labels, of_refusal, of_words, of_write}
+use Rattle.sbpl_checks.specs.sbpl_promises.Explained.{Explains, IsBlockExplained, IsFaultExplained, IsFlawExplained, IsLabelFaultExplained, IsTold, IsToldDone}
+use Rattle.sbpl_checks.specs.sbpl_promises.Explained.{IsToldOf, nothing, of_done, of_flaw, of_labels, of_refusal, of_words, of_write}
 use Rattle.sbpl_checks.specs.sbpl_promises.Explained.{out_of_memory}
 use Rattle.sbpl_checks.specs.sbpl_promises.Explained.{program, unwritten, unwritten_text}
 use Rattle.sbpl_checks.specs.sbpl_promises.Intents.{checked_status, checked_writes, plans_status, refusal_writes}
@@ -13,7 +13,7 @@ use Rattle.sbpl_checks.specs.sbpl_promises.Intents.{words_writes}
 use Rattle.sbpl_checks.specs.sbpl_promises.Promises.{EndsJob, IsChecked, IsOrUnwritten, by_words}
 use Rattle.sbpl_checks.specs.sbpl_promises.Published.{Entry}
 use Rattle.sbpl_checks.specs.sbpl_promises.WorldFiles.{WorldFiles}
-use Rattle.sbpl_checks.specs.sbpl_promises.Writing.{DeskState, EndsAs, IsOutput, ReadFailed, ReadsOnly, Write, WritesOnly}
+use Rattle.sbpl_checks.specs.sbpl_promises.Writing.{DeskState, EndsAs, IsOutput, ReadFailed, ReadsOnly, Told, Write, WritesOnly}
 use Rattle.sbpl_checks.specs.sbpl_promises.declared.section_stop.SectionStop.{SectionStop}
 use Rattle.sbpl_checks.specs.sbpl_promises.declared.section_stop.SectionStop.TheVariants as section
 use Rattle.sbpl_checks.specs.sbpl_cert.Faults.{place_of}
@@ -29,7 +29,7 @@ use Rattle.sbpl_checks.specs.Checking.{IsStopTold}
 use Rattle.sbpl_checks.specs.declared.label_file.LabelFile.{LabelFile}
 use Rattle.sbpl_checks.proofs.Endings.{ends_as}
 use Rattle.sbpl_checks.proofs.Writings.{made_both, none_made}
-use Rattle.sbpl_jobs.specs.Endings.{IsJobEnding, IsPlainOrBlocked, IsRunEnding}
+use Rattle.sbpl_jobs.specs.Endings.{IsBlockMessage, IsJobEnding, IsRunEnding}
 use Rattle.sbpl_jobs.proofs.Ends.{failed_later, refused}
 
 -- the message, where the status is known
@@ -37,12 +37,24 @@ pub message_at : (e : Ending) (n : ℕ) → number_of e.status ≡ n
     → message_of e ≡ (if n == 7 then unwritten_text else e.why)
 message_at e n is = ap (λ (k : ℕ). if k == 7 then unwritten_text else e.why) is
 
--- a job that is not refused, without a fault in labels
-pub plain_told : (s u : DeskState) (j : Job) (e : Ending) → e.why ≡ [] → IsOrUnwritten 0 (number_of e.status)
+-- a job that is not refused, without a fault in labels, of which this is told where it is done
+pub plain_told : (s u : DeskState) (j : Job) (why : List ℕ) (e : Ending) → e.why ≡ (if number_of e.status == 0 then why else [])
+    → (message_of e ≡ why → IsToldDone s.held j (message_of e)) → IsOrUnwritten 0 (number_of e.status)
     → IsToldOf s u j (number_of e.status) (message_of e)
-plain_told s u j e none (inl is) = nothing (inl is) (message_at e 0 is ∙ none)
-plain_told s u j e none (inr (inl is)) = of_write is (message_at e 7 is)
-plain_told s u j e none (inr (inr is)) = nothing (inr is) (message_at e 9 is ∙ none)
+plain_told s u j why e told done (inl is) =
+    of_done is (done (message_at e 0 is ∙ told ∙ ap (λ (n : ℕ). if n == 0 then why else []) is))
+plain_told s u j why e told done (inr (inl is)) = of_write is (message_at e 7 is)
+plain_told s u j why e told done (inr (inr is)) =
+    nothing is (message_at e 9 is ∙ told ∙ ap (λ (n : ℕ). if n == 0 then why else []) is)
+
+-- the same, where nothing is told
+none_told : (s u : DeskState) (j : Job) (e : Ending) → e.why ≡ [] → (message_of e ≡ [] → IsToldDone s.held j (message_of e))
+    → IsOrUnwritten 0 (number_of e.status) → IsToldOf s u j (number_of e.status) (message_of e)
+none_told s u j e none = plain_told s u j [] e (none ∙ either [] (number_of e.status == 0))
+  where
+    either : (m : List ℕ) (b : Bool) → m ≡ (if b then m else m)
+    either m true = refl
+    either m false = refl
 
 -- plans that were made, all or some, and what else is done whole
 pub plans_end : {a b : DeskState} {writes : List Write} (all : Bool) (status : ℕ)
@@ -54,22 +66,39 @@ plans_end all status (inr (inr (is, at))) = inr (inr is)
 
 -- so such a job ends, of which no more is told than its status says
 pub plain_ending : (s u : DeskState) (old new : List Entry) (j : Job) (status : ℕ) (e : Ending)
-    → number_of e.status ≡ status → e.why ≡ [] → IsOrUnwritten 0 status → EndsJob s u old new j status
-    → IsJobEnding s u old new j e
-plain_ending s u old new j status e is none fine ends = record {
+    → number_of e.status ≡ status → e.why ≡ [] → (message_of e ≡ [] → IsToldDone s.held j (message_of e))
+    → IsOrUnwritten 0 status → EndsJob s u old new j status → IsJobEnding s u old new j e
+plain_ending s u old new j status e is none done fine ends = record {
   ends = subst (λ (n : ℕ). EndsJob s u old new j n) (sym is) ends;
-  told = plain_told s u j e none (subst (λ (n : ℕ). IsOrUnwritten 0 n) (sym is) fine);
+  told = none_told s u j e none done (subst (λ (n : ℕ). IsOrUnwritten 0 n) (sym is) fine);
 }
 
--- or such a job made plans, and it may be told why the first has no path
-pub planning_ending : (s u : DeskState) (old new : List Entry) (j : Job) (env : List ℕ) (status : ℕ) (e : Ending)
-    → number_of e.status ≡ status → IsPlainOrBlocked env e
-    → (IsPlainMessage env (message_of e) → IsBlockExplained j (message_of e))
+-- or of which this is told where it is done
+pub planning_ending : (s u : DeskState) (old new : List Entry) (j : Job) (status : ℕ) (why : List ℕ) (e : Ending)
+    → number_of e.status ≡ status → e.why ≡ (if number_of e.status == 0 then why else [])
+    → (message_of e ≡ why → IsToldDone s.held j (message_of e))
     → IsOrUnwritten 0 status → EndsJob s u old new j status → IsJobEnding s u old new j e
-planning_ending s u old new j env status e is (inl none) of fine ends = plain_ending s u old new j status e is none fine ends
-planning_ending s u old new j env status e is (inr (zero, plain)) of fine ends = record {
+planning_ending s u old new j status why e is told done fine ends = record {
   ends = subst (λ (n : ℕ). EndsJob s u old new j n) (sym is) ends;
-  told = of_block zero (of (subst (λ (m : List ℕ). IsPlainMessage env m) (sym (message_at e 0 zero)) plain));
+  told = plain_told s u j why e told done (subst (λ (n : ℕ). IsOrUnwritten 0 n) (sym is) fine);
+}
+
+-- in a world that the files stand for, what is in the way of its first plan is explained
+pub explained : {W : Type 0} (held : Told) (f : WorldFiles W) (w : W) (start goal : ℕ) (name why m : List ℕ)
+    → f.stand_for held w → f.on.reporting.arcs (f.on.reporting.told w) w → f.on.reporting.starts w start
+    → f.on.reporting.ends w goal → IsBlockMessage (f.on.reporting.told w) start goal name why → m ≡ why
+    → IsBlockExplained held f name m
+explained held f w start goal name why m says arcs start_is goal_is block is = record {
+  world = w;
+  says = says;
+  arcs = arcs;
+  start = start;
+  goal = goal;
+  start_is = start_is;
+  goal_is = goal_is;
+  blockage = block.blockage;
+  blocks = block.blocks;
+  message = is ∙ block.message;
 }
 
 -- a job that publishes nothing ends so whatever was published
@@ -84,19 +113,20 @@ pub check_told : {W : Type 0} (s u : DeskState) (f : WorldFiles W) (changes : Op
     (checked : IsChecked s.held f changes labels goals os end) → file.name.now ≡ labels
     → file.text.now ≡ checked.text → EndsAs s u (checked_writes goals 0 os end) (checked_status end) (number_of e.status)
     → IsStopTold file end e
+    → (message_of e ≡ [] → IsToldDone s.held j (message_of e))
     → (IsPlainMessage labels (message_of e) → IsFlawExplained j (message_of e))
     → (IsFaultExplained s u f changes labels (message_of e) → IsLabelFaultExplained s u j (message_of e))
     → IsToldOf s u j (number_of e.status) (message_of e)
-check_told s u f changes labels j file goals os None e checked name text ends told flaw of =
-    plain_told s u j e told (plans_end true (number_of e.status) ends)
-check_told s u f changes labels j file goals os (Some (section.Flaw x)) e checked name text (inl (is, made)) told flaw of =
+check_told s u f changes labels j file goals os None e checked name text ends told done flaw of =
+    none_told s u j e told done (plans_end true (number_of e.status) ends)
+check_told s u f changes labels j file goals os (Some (section.Flaw x)) e checked name text (inl (is, made)) told done flaw of =
     of_flaw is (flaw (subst (λ (m : List ℕ). IsPlainMessage labels m) (sym (message_at e 1 is))
     (subst (λ (n : List ℕ). IsPlainMessage n e.why) name (told.written is))))
-check_told s u f changes labels j file goals os (Some (section.Flaw x)) e checked name text (inr (inl (is, at))) told flaw of =
+check_told s u f changes labels j file goals os (Some (section.Flaw x)) e checked name text (inr (inl (is, at))) told done flaw of =
     of_write is (message_at e 7 is)
-check_told s u f changes labels j file goals os (Some (section.Flaw x)) e checked name text (inr (inr (is, at))) told flaw of =
-    nothing (inr is) (message_at e 9 is ∙ told.unwritten (λ one. let both : 9 ≡ 1 = sym is ∙ one in cc))
-check_told s u f changes labels j file goals os (Some (section.Fault x)) e checked name text (inl (is, made)) told flaw of =
+check_told s u f changes labels j file goals os (Some (section.Flaw x)) e checked name text (inr (inr (is, at))) told done flaw of =
+    nothing is (message_at e 9 is ∙ told.unwritten (λ one. let both : 9 ≡ 1 = sym is ∙ one in cc))
+check_told s u f changes labels j file goals os (Some (section.Fault x)) e checked name text (inl (is, made)) told done flaw of =
     of_labels is (of (record {
       fault = x;
       judged = record { goals = goals; outcomes = os; checked = checked; lines = made };
@@ -105,16 +135,16 @@ check_told s u f changes labels j file goals os (Some (section.Fault x)) e check
           (subst (λ (n : List ℕ). IsMessageAt n checked.text (place_of x) e.why) name
           (subst (λ (t : List ℕ). IsMessageAt file.name.now t (place_of x) e.why) text (told.written is)));
     }))
-check_told s u f changes labels j file goals os (Some (section.Fault x)) e checked name text (inr (inl (is, at))) told flaw of =
+check_told s u f changes labels j file goals os (Some (section.Fault x)) e checked name text (inr (inl (is, at))) told done flaw of =
     of_write is (message_at e 7 is)
-check_told s u f changes labels j file goals os (Some (section.Fault x)) e checked name text (inr (inr (is, at))) told flaw of =
-    nothing (inr is) (message_at e 9 is ∙ told.unwritten (λ ten. let both : 9 ≡ 10 = sym is ∙ ten in cc))
-check_told s u f changes labels j file goals os (Some section.NoMemory) e checked name text (inl (is, made)) told flaw of =
-    nothing (inr is) (message_at e 9 is ∙ told)
-check_told s u f changes labels j file goals os (Some section.NoMemory) e checked name text (inr (inl (is, at))) told flaw of =
+check_told s u f changes labels j file goals os (Some (section.Fault x)) e checked name text (inr (inr (is, at))) told done flaw of =
+    nothing is (message_at e 9 is ∙ told.unwritten (λ ten. let both : 9 ≡ 10 = sym is ∙ ten in cc))
+check_told s u f changes labels j file goals os (Some section.NoMemory) e checked name text (inl (is, made)) told done flaw of =
+    nothing is (message_at e 9 is ∙ told)
+check_told s u f changes labels j file goals os (Some section.NoMemory) e checked name text (inr (inl (is, at))) told done flaw of =
     of_write is (message_at e 7 is)
-check_told s u f changes labels j file goals os (Some section.NoMemory) e checked name text (inr (inr (is, at))) told flaw of =
-    nothing (inr is) (message_at e 9 is ∙ told)
+check_told s u f changes labels j file goals os (Some section.NoMemory) e checked name text (inr (inr (is, at))) told done flaw of =
+    nothing is (message_at e 9 is ∙ told)
 
 -- no refusal has the status of a failed write
 refusal_message : (r : Refusal) (e : Ending) → number_of e.status ≡ refusal_status r → message_of e ≡ e.why
@@ -151,7 +181,7 @@ refused_so stand s t u old new j r why e stays cause explains same ends frame = 
           others = λ name other. frame.others name other ∙ same.written name;
         }) (subst (λ (m : List ℕ). Explains s.held (input_name j) r m) (sym (refusal_message r e is ∙ says)) explains)
     told (cut is at none) = of_write is (message_at e 7 is)
-    told (ran_out is at none) = nothing (inr is) (message_at e 9 is ∙ none)
+    told (ran_out is at none) = nothing is (message_at e 9 is ∙ none)
 
 -- words that name no job
 pub words_so : (named : Option Job) (s u : DeskState) (old : List Entry) (why : List ℕ) (e : Ending) → named ≡ None

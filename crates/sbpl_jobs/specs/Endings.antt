@@ -1,8 +1,10 @@
 -- How a job ended, and how a run did.
-use Rattle.std.specs.Prelude.{◌≡◌, ◌⊎◌, ℕ, List, [], Option}
+use Rattle.std.specs.Prelude.{◌≡◌, ℕ, List, Option}
 use Rattle.sbpl_checks.specs.sbpl_job.declared.job.Job.{Job}
-use Rattle.sbpl_checks.specs.sbpl_lists.Messages.{IsPlainMessage}
+use Rattle.sbpl_checks.specs.sbpl_graph.Network.{Network}
+use Rattle.sbpl_checks.specs.sbpl_promises.Blocked.{IsBlockage, blocked_message}
 use Rattle.sbpl_checks.specs.sbpl_promises.Causes.{JobStopsFor}
+use Rattle.sbpl_checks.specs.sbpl_promises.declared.blockage.Blockage.{Blockage}
 use Rattle.sbpl_checks.specs.sbpl_promises.Explained.{ExplainsStop, IsTold, IsToldOf}
 use Rattle.sbpl_checks.specs.sbpl_promises.Promises.{EndsJob, EndsRun}
 use Rattle.sbpl_checks.specs.sbpl_promises.Published.{Entry}
@@ -18,9 +20,11 @@ pub record IsJobEnding (before after : DeskState) (old new : List Entry) (j : Jo
   pub ends : EndsJob before after old new j (number_of e.status)
   pub told : IsToldOf before after j (number_of e.status) (message_of e)
 
--- a job that makes plans ended so: nothing is told, or why the first plan has no path, on the environment file of this name
-abbrev pub IsPlainOrBlocked : (env : List ℕ) → Ending → Type 0
-IsPlainOrBlocked env e = (e.why ≡ []) ⊎ ((number_of e.status ≡ 0) × IsPlainMessage env e.why)
+-- what is told of a plan between two states of a graph, on the file of this name
+pub record IsBlockMessage (n : Network) (start goal : ℕ) (name m : List ℕ) : Type 0 where
+  pub blockage : Option Blockage
+  pub blocks : IsBlockage n start goal blockage
+  pub message : m ≡ blocked_message name blockage
 
 -- a job stopped for this before anything was written, for a cause, and this is what is told of it
 pub record IsJobStop (before after : DeskState) (j : Job) (s : JobStop) : Type 0 where

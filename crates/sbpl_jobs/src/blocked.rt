@@ -1,65 +1,17 @@
-//! Why the first plan has no path, where that is simple.
+//! What is told of a job that made plans.
 
-ghost use Rattle.std.specs.Prelude.{◌≡◌, ◌<◌, ◌⊎◌, [], IfOk};
-ghost use Rattle.sbpl_checks.specs.sbpl_lists.Messages.{IsPlainMessage};
-ghost use Rattle.sbpl_jobs.specs.Endings.{IsPlainOrBlocked};
+ghost use Rattle.std.specs.Prelude.{◌≡◌, ◌==◌, ◌<◌, if◌then◌else◌, [], IfOk};
+ghost use Rattle.sbpl_checks.specs.sbpl_promises.Blocked.{blocked_text};
+ghost use Rattle.sbpl_checks.specs.sbpl_report.Statuses.{number_of};
+ghost use Rattle.sbpl_jobs.specs.Endings.{IsBlockMessage};
 
-use sbpl_checks::{Ending, Graph, Status, plain_message};
+use sbpl_checks::{Blockage, Ending, ListOf, Message, NoMemory, Status, Workspace, plain_message};
 use std::alloc::Global;
 
-/// What is in the way of each path between two states that differ.
-#[derive(Clone, Copy)]
-pub(crate) enum Blockage {
-    /// No arc from the start is free.
-    Start,
-    /// No arc into the goal is free.
-    Goal,
-}
-
-/// Whether an arc from a state is free.
-fn leads_on<G: Graph>(graph: &G, s: u32) -> bool
-    requires state { s < (G.network graph.now).states }
+/// What is said of a first plan that is blocked so.
+fn said(blockage: Blockage) -> &'static str
+    ensures said { result.now ≡ blocked_text blockage }
 {
-    for k in 0..graph.fan(s) {
-        if graph.judge(s, k).is_some() {
-            return true;
-        }
-    }
-    false
-}
-
-/// Whether an arc into a state is free.
-fn is_led_to<G: Graph>(graph: &G, t: u32) -> bool
-    requires state { t < (G.network graph.now).states }
-{
-    for j in 0..graph.tail_fan(t) {
-        if let Some((s, k)) = graph.tail(t, j) {
-            if graph.judge(s, k).is_some() {
-                return true;
-            }
-        }
-    }
-    false
-}
-
-/// What is in the way of a path on the present map, if it is simple.
-pub(crate) fn blockage_of<G: Graph>(graph: &G, start: u32, goal: u32) -> Option<Blockage>
-    requires start { start < (G.network graph.now).states }
-    requires goal { goal < (G.network graph.now).states }
-{
-    if start == goal {
-        None
-    } else if !leads_on(graph, start) {
-        Some(Blockage::Start)
-    } else if !is_led_to(graph, goal) {
-        Some(Blockage::Goal)
-    } else {
-        None
-    }
-}
-
-/// What is said of that.
-fn said(blockage: Blockage) -> &'static str {
     match blockage {
         Blockage::Start =>
             "plan 0 has no path: no motion from the start is free of obstacles and stays on the map",
@@ -67,21 +19,31 @@ fn said(blockage: Blockage) -> &'static str {
     }
 }
 
-/// How a job ended that made plans on the environment file of this name, the first of which was blocked so.
-pub(crate) fn planned(
+/// What is told of a first plan between two states on the environment file of this name: what is in its way, if it is simple.
+pub(crate) fn block_message<W: Workspace>(
     alloc: Global,
+    world: &W,
+    start: u32,
+    goal: u32,
     env: &str,
-    status: Status,
-    blockage: Option<Blockage>,
-) -> Ending
-    ensures status { result.status ≡ status }
-    ensures told { IsPlainOrBlocked env.now result }
+) -> Result<Message, NoMemory>
+    requires start { start < (W.reporting.told world.now).states }
+    requires goal { goal < (W.reporting.told world.now).states }
+    ensures message { IfOk result (IsBlockMessage (W.reporting.told world.now) start goal env.now) }
 {
-    match (status, blockage) {
-        (Status::Done, Some(blockage)) => match plain_message(alloc, env, said(blockage)) {
-            Ok(why) => Ending { status, why },
-            Err(_) => Ending::plain(alloc, status),
-        },
+    match world.blockage(start, goal) {
+        Some(blockage) => plain_message(alloc, env, said(blockage)),
+        None => Ok(ListOf::of(Vec::new(alloc))),
+    }
+}
+
+/// How a job ended that made plans: this is told where they were all made and written.
+pub(crate) fn planned(alloc: Global, status: Status, why: Message) -> Ending
+    ensures status { result.status ≡ status }
+    ensures told { result.why ≡ (if number_of result.status == 0 then why else []) }
+{
+    match status {
+        Status::Done => Ending { status, why },
         _ => Ending::plain(alloc, status),
     }
 }

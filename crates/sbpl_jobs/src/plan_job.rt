@@ -7,8 +7,10 @@ ghost use Rattle.sbpl_checks.specs.sbpl_promises.Writing.{IsOutputOf, ReadsOnly,
 ghost use Rattle.sbpl_plans.specs.Boards.{IsSamePublisher, entries_of};
 ghost use Rattle.sbpl_jobs.specs.Endings.{IsJobEnding, IsJobStop};
 
-use crate::blocked::{blockage_of, planned};
-use sbpl_checks::{Desk, Ending, Gate, JobStop, PlanJob, Reversed, Workspace, read_updates};
+use crate::blocked::{block_message, planned};
+use sbpl_checks::{
+    Desk, Ending, Gate, JobStop, Lattice, PlanJob, Reversed, Workspace, read_updates,
+};
 use sbpl_plans::{LiveBoard, Task, make_plans};
 use std::alloc::Global;
 use std::sync::Wait;
@@ -36,7 +38,12 @@ pub(crate) fn run_plan<R: Threads + Wait + Sync, D: Desk, T: Gate + Sync>(
     let moving = job.search.planner.may_move();
     let (lattice, updates) = read_updates(alloc, &job.sources, &job.changes, moving, desk)?;
     let (start, goal) = lattice.ends();
-    let blockage = blockage_of(&lattice, start, goal);
+    Lattice::has_its_arcs();
+    let Ok(why) = block_message(alloc, &lattice, start, goal, job.sources.env.as_str()) else {
+        drop(updates);
+        drop(lattice);
+        return Err(JobStop::NoMemory);
+    };
     let task = Task {
         how: &job.search,
         outputs: &job.outputs,
@@ -49,9 +56,9 @@ pub(crate) fn run_plan<R: Threads + Wait + Sync, D: Desk, T: Gate + Sync>(
         let status = make_plans(gate, alloc, world, &task, live, &job.outputs, desk);
         // Let go by a call: the drop of each field here would make the proof long.
         drop(updates);
-        return Ok(planned(alloc, job.sources.env.as_str(), status, blockage));
+        return Ok(planned(alloc, status, why));
     }
     let status = make_plans(gate, alloc, lattice, &task, live, &job.outputs, desk);
     drop(updates);
-    Ok(planned(alloc, job.sources.env.as_str(), status, blockage))
+    Ok(planned(alloc, status, why))
 }

@@ -1,5 +1,5 @@
 -- What people are told of a run that did not do its job.
-use Rattle.std.specs.Prelude.{◌≡◌, ◌==◌, ◌&&◌, ◌||◌, ◌⊎◌, ℕ, Bool, true, false, List, [], Option, Some, None, codes}
+use Rattle.std.specs.Prelude.{◌≡◌, ◌==◌, ◌&&◌, ◌||◌, ℕ, Bool, true, false, List, [], Option, Some, None, codes}
 use Rattle.sbpl_report.specs.sbpl_cfg.Environment.{Environment}
 use Rattle.sbpl_report.specs.sbpl_cfg.Faults as env_faults
 use Rattle.sbpl_report.specs.sbpl_mprim.Faults as prim_faults
@@ -19,8 +19,10 @@ use Rattle.sbpl_report.specs.declared.refusal.Refusal.TheVariants as refusal
 use Rattle.sbpl_report.specs.declared.refusal.JobStop.{JobStop}
 use Rattle.sbpl_report.specs.declared.refusal.JobStop.TheVariants as stop
 use Rattle.sbpl_report.specs.Refusals.{file_name, input_name}
+use Rattle.sbpl_promises.specs.declared.blockage.Blockage.{Blockage}
 use Rattle.sbpl_promises.specs.declared.section_stop.SectionStop.TheVariants as section
-use Rattle.sbpl_promises.specs.Causes.{IsReadText, check_files, grid_files}
+use Rattle.sbpl_promises.specs.Blocked.{IsBlockage, blocked_message}
+use Rattle.sbpl_promises.specs.Causes.{IsReadText, check_files, grid_files, plan_files}
 pub use Rattle.sbpl_promises.specs.Causes.{program}
 use Rattle.sbpl_promises.specs.Promises.{AtJob, IsJudged, IsRefused}
 use Rattle.sbpl_promises.specs.Texts.{HasChangeFault, HasEnvironmentFault, HasGridFault, HasPrimitiveFault, Scope}
@@ -118,21 +120,36 @@ IsFlawExplained (job.Check j) m = IsPlainMessage j.labels m
 IsFlawExplained (job.NavCheck j) m = IsPlainMessage j.labels m
 IsFlawExplained _ m = ⊥
 
--- a message on the environment file of a job that makes plans: why the first has no path
-abbrev pub IsBlockExplained : Job → List ℕ → Type 0
-IsBlockExplained (job.Plan j) m = IsPlainMessage j.sources.env m
-IsBlockExplained (job.Nav j) m = IsPlainMessage j.sources.env m
-IsBlockExplained _ m = ⊥
+-- In a world that the files stand for, whose graph has just the arcs that they say, the first plan goes from a start to a goal; and what is in
+-- the way of each path between them is told on the file of this name, or nothing where nothing simple is.
+pub record IsBlockExplained {W : Type 0} (held : Told) (f : WorldFiles W) (name m : List ℕ) : Type 0 where
+  pub world : W
+  pub says : f.stand_for held world
+  pub arcs : f.on.reporting.arcs (f.on.reporting.told world) world
+  pub start : ℕ
+  pub goal : ℕ
+  pub start_is : f.on.reporting.starts world start
+  pub goal_is : f.on.reporting.ends world goal
+  pub blockage : Option Blockage
+  pub blocks : IsBlockage (f.on.reporting.told world) start goal blockage
+  pub message : m ≡ blocked_message name blockage
+
+-- what is told of a job that was done: why its first plan has no path, on its environment file, if that is simple; and nothing of any other
+-- job
+abbrev pub IsToldDone : Told → Job → List ℕ → Type 0
+IsToldDone held (job.Plan j) m = IsBlockExplained held (plan_files j) j.sources.env m
+IsToldDone held (job.Nav j) m = IsBlockExplained held (grid_files j.sources) j.sources.env m
+IsToldDone held _ m = m ≡ []
 
 -- What is told of a job that ended with a status: of its refusal, whose line the report has; of a flaw or a fault in its labels; that a write
--- failed; why a plan has no path; or nothing, where the job was done, and where memory ran out.
+-- failed; where it was done, why its first plan has no path, if that is simple; or nothing, where memory ran out.
 pub data IsToldOf (before after : DeskState) (j : Job) (status : ℕ) (m : List ℕ) : Type 0 where
   of_refusal : (x : IsRefused before after status j) → Explains before.held (input_name j) x.refusal m → IsToldOf before after j status m
-  of_block : status ≡ 0 → IsBlockExplained j m → IsToldOf before after j status m
+  of_done : status ≡ 0 → IsToldDone before.held j m → IsToldOf before after j status m
   of_flaw : status ≡ 1 → IsFlawExplained j m → IsToldOf before after j status m
   of_labels : status ≡ 10 → IsLabelFaultExplained before after j m → IsToldOf before after j status m
   of_write : status ≡ 7 → m ≡ unwritten_text → IsToldOf before after j status m
-  nothing : (status ≡ 0) ⊎ (status ≡ 9) → m ≡ [] → IsToldOf before after j status m
+  nothing : status ≡ 9 → m ≡ [] → IsToldOf before after j status m
 
 -- What is told of a run, whose words name a job or none: of the job; of the words; that a write failed; or nothing, where memory ran out.
 pub data IsTold (named : Option Job) (before after : DeskState) (status : ℕ) (m : List ℕ) : Type 0 where

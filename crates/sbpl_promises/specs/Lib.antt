@@ -9,6 +9,7 @@ pub mod Intents
 pub mod Texts
 pub mod WorldFiles
 pub mod Clear
+pub mod Blocked
 pub mod Headline
 pub mod Causes
 pub mod Promises

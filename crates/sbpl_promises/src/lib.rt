@@ -1,10 +1,12 @@
 //! What the program promises of the status that it answers and of what it writes, as definitions.
 #![tactic(auto)]
 
+mod blockage;
 mod laws;
 mod section_stop;
 mod updates;
 
+pub use blockage::Blockage;
 pub use laws::causes_stand;
 pub use section_stop::SectionStop;
 pub use updates::Updates;

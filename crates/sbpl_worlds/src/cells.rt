@@ -1,8 +1,9 @@
 //! The grid, whose states are cells, as what a job plans on.
 
+use crate::blocked::blockage_of;
 use crate::workspace::Workspace;
 use sbpl_promises::{
-    FoundPath, Graph, Nav, NoMemory, Octile, PathStep, Place, PlanResult, ReportPose,
+    Blockage, FoundPath, Graph, Nav, NoMemory, Octile, PathStep, Place, PlanResult, ReportPose,
     worlds_are_grids,
 };
 use std::alloc::Global;
@@ -49,6 +50,10 @@ impl Workspace for Nav {
             Some(_) => unreachable!(),
             None => start,
         }
+    }
+
+    fn blockage(&self, start: u32, goal: u32) -> Option<Blockage> {
+        blockage_of(self, start, goal)
     }
 
     fn turn(

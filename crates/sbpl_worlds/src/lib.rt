@@ -2,6 +2,7 @@
 //! is drawn.
 #![tactic(auto)]
 
+mod blocked;
 mod cells;
 mod drawn;
 mod ends;
@@ -99,4 +100,4 @@ pub use sbpl_promises::{
 };
 
 // Of `sbpl_promises`.
-pub use sbpl_promises::{SectionStop, Updates, causes_stand};
+pub use sbpl_promises::{Blockage, SectionStop, Updates, causes_stand};

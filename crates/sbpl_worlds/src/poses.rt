@@ -1,9 +1,10 @@
 //! The lattice, whose states are poses, as what a job plans on.
 
+use crate::blocked::blockage_of;
 use crate::workspace::Workspace;
 use sbpl_promises::{
-    Best, FoundPath, Graph, Lattice, NoMemory, PathStep, Place, PlanResult, ReportPose, Terrain,
-    lattice_has_its_arcs, lattice_tails_are_in_order, place_at,
+    Best, Blockage, FoundPath, Graph, Lattice, NoMemory, PathStep, Place, PlanResult, ReportPose,
+    Terrain, lattice_has_its_arcs, lattice_tails_are_in_order, place_at,
 };
 use std::alloc::Global;
 
@@ -47,6 +48,10 @@ impl Workspace for Lattice {
             Some(place) => self.state_of(&place).unwrap(),
             None => start,
         }
+    }
+
+    fn blockage(&self, start: u32, goal: u32) -> Option<Blockage> {
+        blockage_of(self, start, goal)
     }
 
     fn turn(

@@ -7,8 +7,8 @@ ghost use Rattle.sbpl_promises.specs.sbpl_graph.Path.{IsFreePath};
 
 use crate::workspace::Workspace;
 use sbpl_promises::{
-    Arcs, FoundPath, FromStart, Graph, Lattice, NoMemory, PathStep, Place, PlanResult, ReportPose,
-    Reversed, Terrain, paths_turn_round, turned_round,
+    Arcs, Blockage, FoundPath, FromStart, Graph, Lattice, NoMemory, PathStep, Place, PlanResult,
+    ReportPose, Reversed, Terrain, paths_turn_round, turned_round,
 };
 use std::alloc::Global;
 
@@ -65,6 +65,10 @@ impl Workspace for Reversed {
 
     fn start_at(&self, place: Option<Place>, start: u32) -> u32 {
         self.lattice().start_at(place, start)
+    }
+
+    fn blockage(&self, start: u32, goal: u32) -> Option<Blockage> {
+        self.lattice().blockage(start, goal)
     }
 
     fn turn(

@@ -4,12 +4,13 @@ ghost use Rattle.std.specs.Prelude.{◌≡◌, ◌<◌, ℕ, IfOk, IsSome};
 ghost use Rattle.sbpl_promises.specs.sbpl_map.CellMap.{CellMap};
 ghost use Rattle.sbpl_promises.specs.sbpl_map.ChangeText.{IsPlaceOnMap};
 ghost use Rattle.sbpl_worlds.specs.Moves.{state_or};
+ghost use Rattle.sbpl_promises.specs.Blocked.{IsBlockage};
 ghost use Rattle.sbpl_promises.specs.Headline.{IsTurned};
 ghost use Rattle.sbpl_promises.specs.Sites.{Leads, WordPlacesAlike, Reporting, from_of, to_of};
 ghost use Rattle.sbpl_promises.specs.sbpl_plan.Outcomes.{IsTrueOutcome};
 
 use sbpl_promises::{
-    FoundPath, Heuristic, NoMemory, PathStep, Place, PlanResult, ReportPose, Terrain,
+    Blockage, FoundPath, Heuristic, NoMemory, PathStep, Place, PlanResult, ReportPose, Terrain,
 };
 use std::alloc::Global;
 
@@ -59,6 +60,12 @@ pub trait Workspace: Terrain {
         requires start { start < (reporting.told self.now).states }
         ensures state { result ≡ state_or reporting self.now place start }
         ensures inside { result < (reporting.told self.now).states };
+
+    /// What is in the way of each path from `start` to `goal`, if it is simple.
+    fn blockage(&self, start: u32, goal: u32) -> Option<Blockage>
+        requires start { start < (reporting.told self.now).states }
+        requires goal { goal < (reporting.told self.now).states }
+        ensures blocks { IsBlockage (reporting.told self.now) start goal result };
 
     /// The result of a plan from `start` to `goal`, as it is told, of what a search found. It takes memory only where a
     /// path is turned round.

@@ -1,6 +1,6 @@
 use Rattle.std.proofs.Common.{◌≡◌, ℕ, List, [], map, string_bytes, None, Option, Some, IsSome, true, false, rules, inl, inr, refl, sym, ◌∙◌, subst}
 use Rattle.std.proofs.lemmas.Bool.{false≢true}
-use Rattle.sbpl_jobs.specs.sbpl_promises.Explained.{Explains, IsBlockExplained, IsTold, IsToldOf, by_job, has_message, nothing, of_block}
+use Rattle.sbpl_jobs.specs.sbpl_promises.Explained.{Explains, IsTold, IsToldDone, IsToldOf, by_job, has_message, nothing, of_done}
 use Rattle.sbpl_jobs.specs.sbpl_promises.Explained.{of_flaw, of_labels, of_refusal, of_words, of_write, out_of_memory, unwritten}
 use Rattle.sbpl_jobs.specs.sbpl_job.declared.job.Job.TheVariants as job
 use Rattle.sbpl_jobs.specs.sbpl_promises.Run.{IsOrUnwritten, IsStatus, Job, job_named, refusal_status}
@@ -46,21 +46,21 @@ refusal_quiet named held names m status (refusal.Changes f) is on quiet = absurd
 refusal_quiet named held names m status (refusal.Read i) is on quiet = absurd (not_quiet named 6 status is refl quiet)
 
 -- a job that makes plans may tell something with status 0
-block_quiet : (j : Job) (status : ℕ) (m : List ℕ) → status ≡ 0 → IsBlockExplained j m → has_message (Some j) status ≡ false
-    → m ≡ []
-block_quiet (job.Plan j) status m is told quiet = absurd (not_quiet (Some (job.Plan j)) 0 status (sym is) refl quiet)
-block_quiet (job.Nav j) status m is told quiet = absurd (not_quiet (Some (job.Nav j)) 0 status (sym is) refl quiet)
-block_quiet (job.Check j) status m is told quiet = absurd told
-block_quiet (job.NavCheck j) status m is told quiet = absurd told
-block_quiet (job.Sweep j) status m is told quiet = absurd told
-block_quiet (job.Demo j) status m is told quiet = absurd told
+done_quiet : (held : Told) (j : Job) (status : ℕ) (m : List ℕ) → status ≡ 0 → IsToldDone held j m
+    → has_message (Some j) status ≡ false → m ≡ []
+done_quiet held (job.Plan j) status m is told quiet = absurd (not_quiet (Some (job.Plan j)) 0 status (sym is) refl quiet)
+done_quiet held (job.Nav j) status m is told quiet = absurd (not_quiet (Some (job.Nav j)) 0 status (sym is) refl quiet)
+done_quiet held (job.Check j) status m is told quiet = told
+done_quiet held (job.NavCheck j) status m is told quiet = told
+done_quiet held (job.Sweep j) status m is told quiet = told
+done_quiet held (job.Demo j) status m is told quiet = told
 
 -- so it is of a job, and of a run
 job_quiet : {s u : DeskState} {j : Job} {status : ℕ} {m : List ℕ} → IsToldOf s u j status m
     → has_message (Some j) status ≡ false → m ≡ []
 job_quiet {s} {j = j} {status = status} {m = m} (of_refusal x explains) quiet =
     refusal_quiet (Some j) s.held (input_name j) m status x.refusal x.has_status explains quiet
-job_quiet {j = j} {status = status} {m = m} (of_block is told) quiet = block_quiet j status m is told quiet
+job_quiet {s} {j = j} {status = status} {m = m} (of_done is told) quiet = done_quiet s.held j status m is told quiet
 job_quiet {j = j} {status = status} (of_flaw is told) quiet = absurd (not_quiet (Some j) 1 status (sym is) refl quiet)
 job_quiet {j = j} {status = status} (of_labels is told) quiet = absurd (not_quiet (Some j) 10 status (sym is) refl quiet)
 job_quiet {j = j} {status = status} (of_write is told) quiet = absurd (not_quiet (Some j) 7 status (sym is) refl quiet)

@@ -1,4 +1,5 @@
 use Rattle.std.proofs.Common.{None, ap, false, refl}
+use Rattle.sbpl_checks.specs.sbpl_promises.Causes.{grid_files}
 use Rattle.sbpl_checks.specs.sbpl_promises.GridSite.{grid_site}
 use Rattle.std.proofs.lemmas.Result.{err_from_is_err_and}
 use Rattle.sbpl_checks.specs.sbpl_job.declared.job.Job.TheVariants as job
@@ -8,14 +9,18 @@ use Rattle.sbpl_checks.proofs.Frames.{writes_after}
 use Rattle.sbpl_plans.specs.Boards.{entries_of}
 use Rattle.sbpl_jobs.proofs.Ends.{ended}
 use Rattle.sbpl_jobs.proofs.Planned.{all_shown, as_told, planned}
-use Rattle.sbpl_jobs.proofs.Telling.{planning_ending, plans_end}
+use Rattle.sbpl_jobs.proofs.Telling.{explained, planning_ending, plans_end}
 use Rattle.sbpl_jobs.proofs.nav_job.run_nav.Goals as goal
 
 pub returns-clause-ends : goal.returns-clause-ends
 returns-clause-ends g c =
     let e = as_told grid_site false c.requires.range.1 c.make_plans-status.ensures.ends in
-    planning_ending _ _ _ _ (job.Nav c.args.job.now) c.args.job.now.sources.env _ _ (ap number_of c.planned.ensures.status)
-    (rw c.as_str.ensures.name at c.planned.ensures.told) (λ plain. plain) (plans_end e.all _ e.ends)
+    planning_ending _ _ _ _ (job.Nav c.args.job.now) _ c.in-Ok.why _ (ap number_of c.planned.ensures.status)
+    c.planned.ensures.told
+    (explained _ (grid_files c.args.job.now.sources) c.in_ok-nav.nav c.ends-start.result.0 c.ends-start.result.1 c.args.job.now.sources.env
+    c.in-Ok.why _ c.in_ok-nav.ensures.updates.says
+    (c.has_its_arcs.ensures.law c.in_ok-nav.nav c.in_ok-nav.ensures.updates.is_world) c.ends-start.ensures.start
+    c.ends-start.ensures.goal (rw c.as_str.ensures.name at c.in-Ok.ensures.message)) (plans_end e.all _ e.ends)
     (ended _ (g.D.Desk.state c.read_grid_updates.new.desk) _ _ _ (job.Nav c.args.job.now)
     (Planned e.records e.all (entries_of c.args.live.now) e.broken) _ refl
     (all_shown grid_site c.in_ok-nav.updates c.ends-start.result.0 e)

@@ -53,7 +53,7 @@ returns-clause-ends g c =
       };
       told =
           check_told _ _ files c.args.job.now.changes c.args.job.now.labels (job.NavCheck c.args.job.now) _ (to_in case)
-          ends.outcomes ends.end _ checked refl c.as_slice.ensures.value since ends.told (λ is. is) (λ is. is);
+          ends.outcomes ends.end _ checked refl c.as_slice.ensures.value since ends.told (λ is. is) (λ is. is) (λ is. is);
     }
 
 pub returns-clause-frame : goal.returns-clause-frame

@@ -10,3 +10,6 @@ returns-in-Sweep-clause-ends g c = ending_of c.run_sweep.result _ _ _ _ _ c.in-S
 pub returns-in-NavCheck-clause-ends : goal.returns-in-NavCheck-clause-ends
 returns-in-NavCheck-clause-ends g c =
     ending_of c.run_navcheck.result _ _ _ _ _ c.in-NavCheck.is c.run_navcheck.ensures.ends
+
+pub returns-in-Plan-clause-frame : goal.returns-in-Plan-clause-frame
+returns-in-Plan-clause-frame g c = rw c.in-Plan.is c.run_plan.ensures.frame

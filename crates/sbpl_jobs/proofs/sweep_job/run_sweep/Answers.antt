@@ -11,7 +11,7 @@ use Rattle.sbpl_checks.proofs.Frames.{writes_after}
 pub returns-in-Ok-clause-ends : goal.returns-in-Ok-clause-ends
 returns-in-Ok-clause-ends g c =
     let ends = status_ends _ c.write_listings.ensures.ends c.status_after-status.ensures.status in
-    λ log. plain_ending _ _ log log _ _ _ (ap number_of c.plain.ensures.status) c.plain.ensures.untold
+    λ log. plain_ending _ _ log log _ _ _ (ap number_of c.plain.ensures.status) c.plain.ensures.untold (λ is. is)
     (plans_end true _ ends)
     (ended _ (g.D.Desk.state c.read_lattice.new.desk) _ log log (job.Sweep c.args.from.now) (Listed c.in-Ok.lattice) _ tt
     refl (c.in-Ok.ensures.says, c.in-Ok.ensures.kept) c.read_lattice.ensures.frame
