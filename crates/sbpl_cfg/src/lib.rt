@@ -21,7 +21,7 @@ pub use place::{TAU, cell_at, heading_at, place_at, places_in_plain_words};
 pub use pose::{Place, Pose};
 pub use print::print_env;
 pub use read::read_env;
-pub use sbpl_fixed::{NoMemory, NumFault, read_whole};
+pub use sbpl_fixed::{NoMemory, NumFault, next_token, print_milli, read_nano, read_whole};
 pub use sbpl_lists::{
     Before, Bits, ListOf, Message, Piece, Row, Runs, Word, is_named, message_at, message_on_line,
     plain_message, push_all, push_line, push_lines, value_before, wanted_after, wanted_at,

@@ -7,9 +7,9 @@ use Rattle.std.proofs.lemmas.Bool.{lt-ltb, ltb-true, true≢false}
 use Rattle.std.proofs.lemmas.Str.Parse.{IsDigitsTest, FoldsDigits, IsNumeralModel, numerals_by_fold, parse_plain}
 use Rattle.std.specs.Result.{OkIff, result_ok}
 use Rattle.std.specs.Str.Parse.{ParsesUnsigned}
-use Rattle.sbpl_fixed.specs.declared.fault.NumFault.TheVariants.{Form, Size}
-use Rattle.sbpl_fixed.specs.Numbers.{all_digits, is_digit, is_whole, number_after, number_of}
-use Rattle.sbpl_fixed.specs.Unsigned.{digits_of}
+use Rattle.sbpl_cfg.specs.sbpl_fixed.declared.fault.NumFault.TheVariants.{Form, Size}
+use Rattle.sbpl_cfg.specs.sbpl_fixed.Numbers.{all_digits, is_digit, is_whole, number_after, number_of}
+use Rattle.sbpl_cfg.specs.sbpl_fixed.Unsigned.{digits_of}
 use Rattle.sbpl_job.specs.Jobs.{seed_in}
 
 tells_digits : IsDigitsTest (λ ds. all_digits ds ≡ true)

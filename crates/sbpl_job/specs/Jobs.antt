@@ -4,9 +4,9 @@ use Rattle.std.specs.List.{list_any, slice_split}
 use Rattle.std.specs.Option.{option_map_or}
 use Rattle.std.specs.Result.{result_ok}
 use Rattle.std.specs.Str.{bytes_eq}
-use Rattle.sbpl_fixed.specs.declared.fault.NumFault.{NumFault}
-use Rattle.sbpl_fixed.specs.Numbers.{nano_of, whole_of}
-use Rattle.sbpl_fixed.specs.Unsigned.{digits_of}
+use Rattle.sbpl_cfg.specs.sbpl_fixed.declared.fault.NumFault.{NumFault}
+use Rattle.sbpl_cfg.specs.sbpl_fixed.Numbers.{nano_of, whole_of}
+use Rattle.sbpl_cfg.specs.sbpl_fixed.Unsigned.{digits_of}
 use Rattle.sbpl_cfg.specs.Environment.{IsPoseInRange}
 use Rattle.sbpl_cfg.specs.declared.pose.Pose.{Pose}
 use Rattle.sbpl_job.specs.declared.job.DemoJob.{DemoJob}

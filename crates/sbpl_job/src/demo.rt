@@ -1,12 +1,12 @@
 //! The numbers of the job `demo`.
 
 ghost use Rattle.std.specs.Prelude.{◌≡◌, ◌<◌, ◌≤◌, ◌^◌, IfOk, nat_eq, slice_index_or};
-ghost use Rattle.sbpl_fixed.specs.Numbers.{whole_of};
+ghost use Rattle.sbpl_cfg.specs.sbpl_fixed.Numbers.{whole_of};
 ghost use Rattle.sbpl_job.specs.Jobs.{extent_in, seed_in};
 ghost use Rattle.sbpl_job.specs.Words.{Names};
 
 use crate::job::JobFault;
-use sbpl_fixed::read_whole;
+use sbpl_cfg::read_whole;
 
 /// The most digits of a seed.
 const MOST_DIGITS: usize = 20;

@@ -3,13 +3,12 @@
 ghost use Rattle.std.specs.Prelude.{◌≡◌, pos, negsuc, [], ◌∷◌, IfOk, IfSome, option_map};
 ghost use Rattle.std.specs.List.{slice_split};
 ghost use Rattle.sbpl_cfg.specs.Environment.{IsPoseInRange, IsWithin};
-ghost use Rattle.sbpl_fixed.specs.Numbers.{nano_of, whole_of};
+ghost use Rattle.sbpl_cfg.specs.sbpl_fixed.Numbers.{nano_of, whole_of};
 ghost use Rattle.sbpl_job.specs.Jobs.{coordinate_in, index_in, is_comma, pose_by, pose_in, square_by, square_in};
 ghost use Rattle.sbpl_job.specs.Words.{Names, text_of, texts};
 
 use crate::job::{JobFault, Square};
-use sbpl_cfg::Pose;
-use sbpl_fixed::{read_nano, read_whole};
+use sbpl_cfg::{Pose, read_nano, read_whole};
 use std::alloc::{AllocError, Global};
 
 /// The greatest coordinate in nanometres, and the greatest angle in nanoradians.

@@ -1,7 +1,7 @@
 //! Values of settings as numbers, and how a path is to be searched.
 
 ghost use Rattle.std.specs.Prelude.{◌≡◌, ◌≤◌, ◌^◌, false, IfOk, Some, option_map};
-ghost use Rattle.sbpl_fixed.specs.Numbers.{nano_of, whole_of};
+ghost use Rattle.sbpl_cfg.specs.sbpl_fixed.Numbers.{nano_of, whole_of};
 ghost use Rattle.sbpl_job.specs.declared.words.Setting.TheVariants as Settings;
 ghost use Rattle.sbpl_job.specs.Found.{set_in};
 ghost use Rattle.sbpl_job.specs.Jobs.{IsSearchJob, back_by, budget_by, budget_in, grid_search_in, has_workers, may_move};
@@ -12,7 +12,7 @@ ghost use Rattle.sbpl_job.specs.Words.{Names, text_of};
 use crate::job::{JobFault, Planner, SearchJob};
 use crate::name::Name;
 use clap::ArgMatches;
-use sbpl_fixed::{read_nano, read_whole};
+use sbpl_cfg::{read_nano, read_whole};
 
 /// The greatest radius, in nanometres.
 const MOST_RADIUS: i64 = 1_000_000_000_000;

@@ -1,15 +1,14 @@
 //! What is wrong with words that name no job, told in one line.
 
 ghost use Rattle.std.specs.Prelude.{IfOk, codes};
-ghost use Rattle.sbpl_lists.specs.Messages.{IsPlainMessage};
+ghost use Rattle.sbpl_job.specs.sbpl_lists.Messages.{IsPlainMessage};
 
 use crate::help::call_of;
 use crate::tip::{nearest_option, tip_on_command};
 use crate::unfit::{Unfit, first_unfit};
 use crate::value::{Value, given, name_of, same_files, wanted, wrong_value};
 use clap::ArgMatches;
-use sbpl_job::{Command, NoMemory, command_named, line_of, spaced_words};
-use sbpl_lists::{Message, plain_message};
+use sbpl_job::{Command, Message, NoMemory, command_named, line_of, plain_message, spaced_words};
 use std::alloc::{AllocError, Global};
 
 /// What separates a part of what `clap` says from what stands before it.
