@@ -21,7 +21,8 @@ use std::sync::Wait;
 use std::thread::Threads;
 
 /// Does what `run_with` does, and answers what people are told besides the status: which word is wrong, which file could
-/// not be read, where a file has its fault and what must stand there, or that a write failed.
+/// not be read, where a file has its fault and what must stand there, that a write failed, or, of a job that was done, why its
+/// first plan has no path where nothing is free at its start or its goal.
 pub fn run_to_end<R: Threads + Wait + Sync, D: Desk, T: Gate + Sync>(
     rt: &R,
     alloc: Global,
@@ -50,8 +51,8 @@ pub fn run_to_end<R: Threads + Wait + Sync, D: Desk, T: Gate + Sync>(
 }
 
 /// Does the job that the words after the program's name stand for, writes what came of it to the standard output, which has
-/// the name `-`, and answers the status: 0 where the job was done, 1 for labels with a flaw, 2 for words that name no job, 3, 4
-/// and 5 for a fault of the environment file, of the primitive file and of the change file, 6 for a file that could not be
+/// the name `-`, and answers the status: 0 where the job was done, 1 for labels with a flaw, 2 for words that name no job or give a
+/// start or a goal off the map, 3, 4 and 5 for a fault of the environment file, of the primitive file and of the change file, 6 for a file that could not be
 /// read, 7 for a write that failed, 8 for a file of more than 2^30 bytes, 9 where memory ran out, and 10 for a fault in the
 /// text of labels. Plans by ePA*SE are made by threads, each of which calls the gate before it judges an arc; no other job
 /// starts a thread.

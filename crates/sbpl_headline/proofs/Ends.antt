@@ -12,7 +12,7 @@ use Rattle.sbpl_promises.specs.sbpl_fixed.declared.fault.NumFault.{NumFault}
 use Rattle.sbpl_promises.specs.sbpl_job.Jobs.{coordinate_in, index_in, is_comma, pose_by, pose_in, square_by, square_in}
 use Rattle.sbpl_promises.specs.sbpl_job.declared.job.Square as given
 use Rattle.sbpl_promises.specs.sbpl_nav2d.Environment.{NavEnvironment}
-use Rattle.sbpl_promises.specs.Texts.{IsOnGrid, square_state}
+use Rattle.sbpl_promises.specs.Texts.{IsSquareOn, square_state}
 use Rattle.sbpl_headline.specs.Files.{IsGiven, Means, Said, nano, number, said_pose}
 use Rattle.sbpl_headline.specs.Grid.{Square, said_square}
 use Rattle.sbpl_headline.proofs.Numbering.{nano_says, whole_says}
@@ -95,7 +95,7 @@ square_said (x ∷ y ∷ []) c h =
 square_said (x ∷ y ∷ more ∷ rest) c h = absurd (none-some c h)
 
 -- the square of the state of a cell on the map is that cell
-square_back : (e : NavEnvironment) (c : given.Square) → IsOnGrid e c
+square_back : (e : NavEnvironment) (c : given.Square) → IsSquareOn e c
     → square_of e.width (square_state e.width c) ≡ record { x = c.x; y = c.y }
 square_back e c on =
     let by_x : ℕ → Square = λ x. record { x = x; y = square_state e.width c / e.width } in
@@ -104,14 +104,14 @@ square_back e c on =
 
 -- the square in a file's place is what its word says, and where there is no word it is the file's
 pub square_given : (e : NavEnvironment) (word : Option (List ℕ)) (own : ℕ) (end : Option given.Square)
-    → IfSome end (IsOnGrid e) → square_by word ≡ Some end
+    → IfSome end (IsSquareOn e) → square_by word ≡ Some end
     → IsGiven said_square word (square_of e.width own) (square_of e.width (option_map_or (square_state e.width) end own))
 square_given e None own end on h =
     subst (λ (o : Option given.Square). square_of e.width (option_map_or (square_state e.width) o own) ≡ square_of e.width own)
     (same_Some {A = Option given.Square} None end h) refl
 square_given e (Some w) own end on h =
     let found = some_read (square_in (slice_split is_comma w)) end h in
-    let there : IsOnGrid e found.0 = subst (λ (o : Option given.Square). IfSome o (IsOnGrid e)) found.2 on in
+    let there : IsSquareOn e found.0 = subst (λ (o : Option given.Square). IfSome o (IsSquareOn e)) found.2 on in
     subst (λ (o : Option given.Square). AllZip Means (said_square (square_of e.width (option_map_or (square_state e.width) o
     own))) (slice_split is_comma w)) (sym found.2)
     (subst (λ (c : Square). AllZip Means (said_square c) (slice_split is_comma w)) (sym (square_back e found.0 there))

@@ -48,7 +48,7 @@ impl Budget {
         }
     }
 
-    /// Sets this meter to the run's count from now on, to the last multiple of 64.
+    /// Sets this meter to the run's count at once, and from then on at each multiple of 64.
     pub fn meter_by(&mut self, meter: &Meter)
         ensures same { self.new ≡ self.old }
     {

@@ -20,7 +20,7 @@ use Rattle.sbpl_promises.specs.sbpl_nav2d.Environment.{NavEnvironment}
 use Rattle.sbpl_promises.specs.sbpl_nav2d.Text as grids
 use Rattle.sbpl_promises.specs.sbpl_cfg.declared.pose.Place.{Place}
 use Rattle.sbpl_promises.specs.Clear.{TextsAreClear}
-use Rattle.sbpl_promises.specs.Texts.{AreOn, HasChangeFault, IsChangeText, IsEnvironmentFor, IsFirstOff, IsGridFor, IsOff, IsOnGrid, Scope}
+use Rattle.sbpl_promises.specs.Texts.{AreOn, HasChangeFault, IsChangeText, IsEnvironmentFor, IsFirstOff, IsGridFor, IsOff, IsSquareOn, Scope}
 use Rattle.sbpl_promises.specs.Texts.{posed, posed_on_grid}
 use Rattle.sbpl_promises.specs.declared.updates.Updates.{Updates}
 
@@ -96,11 +96,11 @@ texts_clear one not_both one_fault one_list not_both_lists one_list_fault one_gr
       grid = λ from text. grid_once (one_grid text) from;
       grid_fault = λ from text e cells f (file, p, on, is) q. not_both_grids text f (file, cells, p) q;
       grid_end_off = λ from text e cells end (file, p, on, is) (other, others, q, off).
-          on_and_off _ _ _ end on (subst (λ d. IsFirstOff (IsOnGrid d) from.start from.goal end)
+          on_and_off _ _ _ end on (subst (λ d. IsFirstOff (IsSquareOn d) from.start from.goal end)
           (one_grid text other file others cells q p).0 off);
       grid_end_fault = λ from text end f (file, cells, p, off) q. not_both_grids text f (file, cells, p) q;
       one_grid_end = λ from text end other (file, cells, p, off) (file', cells', q, also).
-          one_off _ _ _ end other off (subst (λ d. IsFirstOff (IsOnGrid d) from.start from.goal other)
+          one_off _ _ _ end other off (subst (λ d. IsFirstOff (IsSquareOn d) from.start from.goal other)
           (one_grid text file' file cells' cells q p).0 also);
       one_grid_fault = one_grid_fault;
       changes = updates_once;

@@ -237,8 +237,8 @@ fn answer_beside<R: Threads + Wait + Clock + Sync, D: Desk, E: io::Write + Send>
     status
 }
 
-/// Does what `answer` does at this desk, and shows the newest path and the number of expansions on the last line of a terminal while
-/// the planner works. Nothing that the run writes depends on it. It answers the status, and the desk.
+/// Does what `answer` does at this desk, and shows the newest path and the number of expansions on the last line of a terminal
+/// while the planner works. Nothing that the run writes depends on it. It answers the status, and the desk.
 fn answer_at_terminal<R: AllocGlobal + Threads + Wait + Clock + Sync, D: Desk, E: io::Write + Send>(
     rt: &R,
     words: &[String],

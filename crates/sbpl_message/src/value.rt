@@ -2,8 +2,8 @@
 
 use clap::ArgMatches;
 use sbpl_job::{
-    Command, Setting, back_of, budget_of, form_named, milli_by, planner_of, pose_by, radius_of,
-    read_extent, read_seed, square_by, workers_of,
+    Command, JobFault, Setting, back_of, budget_of, form_named, milli_by, planner_of, pose_by,
+    radius_of, read_extent, read_seed, square_by, workers_of,
 };
 use std::alloc::Global;
 
@@ -221,8 +221,10 @@ fn is_form_right(matches: &ArgMatches) -> bool {
 fn is_right(alloc: Global, value: Value, matches: &ArgMatches) -> bool {
     let given = given(value, matches);
     match value {
-        Value::Start | Value::Goal => pose_by(alloc, given).is_ok(),
-        Value::GridStart | Value::GridGoal => square_by(alloc, given).is_ok(),
+        Value::Start | Value::Goal => !matches!(pose_by(alloc, given), Err(JobFault::Words)),
+        Value::GridStart | Value::GridGoal => {
+            !matches!(square_by(alloc, given), Err(JobFault::Words))
+        }
         Value::Radius => radius_of(matches).is_ok(),
         Value::First | Value::Bound => milli_by(given, 1000, 1000, 100_000).is_ok(),
         Value::Step => milli_by(given, 500, 1, 99_000).is_ok(),

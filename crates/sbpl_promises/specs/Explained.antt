@@ -1,4 +1,4 @@
--- What people are told of a run that did not do its job.
+-- What people are told of a run: why it did not do its job, or why its first plan has no path.
 use Rattle.std.specs.Prelude.{◌≡◌, ◌==◌, ◌&&◌, ◌||◌, ℕ, Bool, true, false, List, [], Option, Some, None, codes}
 use Rattle.sbpl_report.specs.sbpl_cfg.Environment.{Environment}
 use Rattle.sbpl_report.specs.sbpl_cfg.Faults as env_faults

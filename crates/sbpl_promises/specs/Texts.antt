@@ -78,8 +78,8 @@ abbrev pub HasEndOff : Sources → List ℕ → PathEnd → Type 0
 HasEndOff from text end = (file : Environment) × (cells : List ℕ) × IsEnvironmentText text file cells × IsFirstOff (IsPoseOnMap file) from.start from.goal end
 
 -- the same of a grid, whose states are its cells, row by row
-abbrev pub IsOnGrid : NavEnvironment → Square → Type 0
-IsOnGrid e c = (c.x < e.width) × (c.y < e.height)
+abbrev pub IsSquareOn : NavEnvironment → Square → Type 0
+IsSquareOn e c = (c.x < e.width) × (c.y < e.height)
 
 abbrev pub square_state : (width : ℕ) → Square → ℕ
 square_state width c = c.y * width + c.x
@@ -91,10 +91,10 @@ posed_on_grid from e = record e {
 }
 
 abbrev pub IsGridFor : GridSources → List ℕ → NavEnvironment → List ℕ → Type 0
-IsGridFor from text e cells = (file : NavEnvironment) × IsGridText text file cells × AreOn (IsOnGrid file) from.start from.goal × (e ≡ posed_on_grid from file)
+IsGridFor from text e cells = (file : NavEnvironment) × IsGridText text file cells × AreOn (IsSquareOn file) from.start from.goal × (e ≡ posed_on_grid from file)
 
 abbrev pub HasGridEndOff : GridSources → List ℕ → PathEnd → Type 0
-HasGridEndOff from text end = (file : NavEnvironment) × (cells : List ℕ) × IsGridText text file cells × IsFirstOff (IsOnGrid file) from.start from.goal end
+HasGridEndOff from text end = (file : NavEnvironment) × (cells : List ℕ) × IsGridText text file cells × IsFirstOff (IsSquareOn file) from.start from.goal end
 
 -- ---- change files
 

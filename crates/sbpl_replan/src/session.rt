@@ -76,7 +76,7 @@ impl<W: Terrain + Drop, H: Heuristic<W>, S: Search<W, H> + Drop> Session<W, H, S
         })
     }
 
-    /// Sets this meter from now on to how many states the plans have expanded so far, while a plan goes on too.
+    /// Sets this meter from now on to how many states the plans have expanded so far, while a plan goes on too: at each 64th.
     pub fn meter_by(&mut self, meter: &Meter)
         ensures same { self.new ≡ self.old }
     {

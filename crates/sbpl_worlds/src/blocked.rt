@@ -25,6 +25,7 @@ fn is_led_to<G: Graph>(graph: &G, t: u32) -> bool
     ensures one { result ≡ true → NoneEnters (G.network graph.now) t → ⊥ }
     ensures none { result ≡ false → NoneEnters (G.network graph.now) t }
 {
+    // For its clause: the tails of a state are those of the graph's laws.
     let _states = graph.states();
     for j in 0..graph.tail_fan(t) {
         if let Some((from, arc)) = graph.tail(t, j) {

@@ -5,7 +5,7 @@ ghost use Rattle.std.specs.Option.{option_map_or};
 ghost use Rattle.sbpl_promises.specs.sbpl_cfg.Environment.{IsPoseOnMap};
 ghost use Rattle.sbpl_promises.specs.sbpl_job.Jobs.{AreSources};
 ghost use Rattle.sbpl_promises.specs.Causes.{IsEndRefused, IsOffStop};
-ghost use Rattle.sbpl_promises.specs.Texts.{AreOn, IsOnGrid, posed, posed_on_grid, square_state};
+ghost use Rattle.sbpl_promises.specs.Texts.{AreOn, IsSquareOn, posed, posed_on_grid, square_state};
 
 use sbpl_promises::{
     Env, GridSources, JobStop, NavEnv, PathEnd, Pose, Refusal, Sources, Square, metres,
@@ -89,14 +89,14 @@ pub(crate) fn posed(alloc: Global, from: &Sources, file: &Env) -> Result<Env, Jo
 
 /// Whether a cell is on a grid.
 fn is_on_grid(env: &NavEnv, square: &Square) -> bool
-    ensures on { MatchBool result (IsOnGrid env.now square.now) (IsOnGrid env.now square.now → ⊥) }
+    ensures on { MatchBool result (IsSquareOn env.now square.now) (IsSquareOn env.now square.now → ⊥) }
 {
     square.x < env.width && square.y < env.height
 }
 
 /// The state of a cell of a grid, or that of the file where the words give no cell.
 fn state_of(env: &NavEnv, square: &Option<Square>, own: u32) -> u32
-    requires on { IfSome square.now (IsOnGrid env.now) }
+    requires on { IfSome square.now (IsSquareOn env.now) }
     requires own { own < env.now.width * env.now.height }
     ensures state { result ≡ option_map_or (square_state env.now.width) square.now own }
     ensures inside { result < env.now.width * env.now.height }
@@ -114,8 +114,8 @@ pub(crate) fn posed_on_grid(
     file: &NavEnv,
 ) -> Result<NavEnv, JobStop>
     ensures posed { IfOk result (λ e. e ≡ posed_on_grid from.now file.now) }
-    ensures on_map { IfOk result (λ _. AreOn (IsOnGrid file.now) from.now.start from.now.goal) }
-    ensures stop { IfErr result (IsOffStop (IsOnGrid file.now) from.now.start from.now.goal) }
+    ensures on_map { IfOk result (λ _. AreOn (IsSquareOn file.now) from.now.start from.now.goal) }
+    ensures stop { IfErr result (IsOffStop (IsSquareOn file.now) from.now.start from.now.goal) }
 {
     if let Some(start) = &from.start {
         if !is_on_grid(file, start) {

@@ -1,6 +1,6 @@
 //! The lattice that files stand for, and the batches of its changes.
 
-ghost use Rattle.std.specs.Prelude.{IfErr, IfOk};
+ghost use Rattle.std.specs.Prelude.{◌≤◌, ◌^◌, IfErr, IfOk};
 ghost use Rattle.sbpl_promises.specs.sbpl_cost.World.{IsWorld};
 ghost use Rattle.sbpl_promises.specs.sbpl_sweep.Swept.{AreSweepsOf};
 ghost use Rattle.sbpl_promises.specs.sbpl_sweep.Widths.{NoneTooWide};
@@ -36,7 +36,7 @@ fn size_message(alloc: Global, name: &str, what: &str) -> Result<Message, NoMemo
 
 /// The sweeps of the primitives of these files for the robot's radius.
 fn make_sweeps(alloc: Global, from: &Sources, prims: &Prims) -> Result<Sweeps, JobStop>
-    requires ranges { AreSources from.now }
+    requires radius { from.now.radius ≤ 10 ^ 12 }
     ensures made { IfOk result (AreSweepsOf prims.now from.now.radius) }
     ensures narrow { IfOk result (λ _. NoneTooWide prims.now from.now.radius) }
     ensures stop { IfErr result (IsWideStop from.now.prims prims.now from.now.radius) }
