@@ -39,6 +39,7 @@ refusal_quiet : (named : Option Job) (held : Told) (names : Input → List ℕ) 
 refusal_quiet named held names m status (refusal.Length i) is none quiet = none
 refusal_quiet named held names m status (refusal.Environment f) is on quiet = absurd (not_quiet named 3 status is refl quiet)
 refusal_quiet named held names m status (refusal.Grid f) is on quiet = absurd (not_quiet named 3 status is refl quiet)
+refusal_quiet named held names m status (refusal.OffMap end) is on quiet = absurd (not_quiet named 2 status is refl quiet)
 refusal_quiet named held names m status (refusal.Primitives f) is on quiet = absurd (not_quiet named 4 status is refl quiet)
 refusal_quiet named held names m status (refusal.TooWide i) is on quiet = absurd (not_quiet named 4 status is refl quiet)
 refusal_quiet named held names m status (refusal.TooDear i) is on quiet = absurd (not_quiet named 4 status is refl quiet)
