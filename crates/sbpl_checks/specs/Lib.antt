@@ -1,5 +1,4 @@
 pub mod Checking
-pub use Rattle.sbpl_worlds.specs.sbpl_graph as sbpl_graph
 pub use Rattle.sbpl_worlds.specs.sbpl_fixed as sbpl_fixed
 pub use Rattle.sbpl_worlds.specs.sbpl_desk as sbpl_desk
 pub use Rattle.sbpl_worlds.specs.sbpl_mprim as sbpl_mprim

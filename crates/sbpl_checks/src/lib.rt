@@ -8,15 +8,15 @@ mod text_check;
 
 pub use label_file::LabelFile;
 pub use sbpl_telling::{
-    Ending, Lines, OUTPUT, Status, end_with, status_after, write_last, write_text,
+    Ending, InFull, Lines, OUTPUT, Status, end_with, status_after, write_last, write_text,
 };
 pub use sbpl_worlds::{
-    Asked, Blockage, Board, Changes, CheckJob, Command, DemoJob, Desk, Entry, Gate, Graph, Input,
-    Job, JobFault, JobStop, LabelForm, Lattice, ListOf, MemoryDesk, Message, Name, Nav,
-    NavCheckJob, NavJob, NoGate, NoMemory, Outputs, PlanJob, Planner, Publisher, ReadStop, Reader,
-    RealDesk, Refusal, Reversed, SearchJob, Setting, Sources, Trouble, Updates, Workspace,
-    WriteStop, causes_stand, cell_at, demo_line, draw, heading_at, listing_at, plain_message,
-    print_env, print_prims, read_asked, read_env, read_file, read_grid_updates, read_job,
-    read_lattice, read_prims, read_updates, refusal_line,
+    Asked, Board, Changes, CheckJob, Command, DemoJob, Desk, Entry, Gate, Graph, Input, Job,
+    JobFault, JobStop, LabelForm, Lattice, ListOf, MemoryDesk, Message, Name, Nav, NavCheckJob,
+    NavJob, NoGate, NoMemory, Outputs, PlanJob, Planner, Publisher, ReadStop, Reader, RealDesk,
+    Refusal, Reversed, SearchJob, Setting, Sources, Trouble, Updates, Workspace, WriteStop,
+    causes_stand, cell_at, demo_line, draw, heading_at, listing_at, print_env, print_prims,
+    read_asked, read_env, read_file, read_grid_updates, read_job, read_lattice, read_prims,
+    read_updates, refusal_line,
 };
 pub use text_check::check_text;

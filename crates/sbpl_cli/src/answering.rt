@@ -47,12 +47,12 @@ fn hindrance(trouble: Trouble) -> &'static str {
     }
 }
 
-/// Tells on `err` why a run that ended so did not do its job, if it did not. Where nobody reads the output any more, as after
-/// `| head`, there is nothing to tell.
+/// Tells on `err` why a run that ended so did not do its job, if it did not, or why plans have no path. Where nobody reads the
+/// output any more, as after `| head`, there is nothing to tell.
 fn explain<E: io::Write>(ending: &Ending, trouble: Trouble, err: &mut E)
     ensures quiet { message_of ending.now ≡ [] → Keeps (E.contents err.old) (E.contents err.new) }
 {
-    let [line @ .., end] = ending.message() else {
+    let [told @ .., end] = ending.message() else {
         return;
     };
     if trouble == Trouble::Unread {
@@ -63,7 +63,7 @@ fn explain<E: io::Write>(ending: &Ending, trouble: Trouble, err: &mut E)
         _ => "",
     };
     // The status says it all where even this cannot be written.
-    let _ = err.write_all(line);
+    let _ = err.write_all(told);
     let _ = err.write_all(besides.as_bytes());
     let _ = err.write_all(&[*end]);
 }
@@ -71,7 +71,8 @@ fn explain<E: io::Write>(ending: &Ending, trouble: Trouble, err: &mut E)
 #[tactic(none)]
 /// Does what the words after the program's name ask for, and answers the program's status: tells help or the version, or does
 /// the job that they name, as `run_with` does it. Where the job was not done, a line on `err` says why: which word, which file, or
-/// where in a file and what must stand there (`run_to_end`). The board's publisher has published fewer than 2^62 entries.
+/// where in a file and what must stand there; where it was, a line for each plan says why it has no path, if that is simple
+/// (`run_to_end`). The board's publisher has published fewer than 2^62 entries.
 pub fn answer<R: Threads + Wait + Sync, D: Desk, T: Gate + Sync, E: io::Write>(
     alloc: Global,
     words: &[String],

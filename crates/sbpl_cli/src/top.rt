@@ -21,8 +21,8 @@ use std::sync::Wait;
 use std::thread::Threads;
 
 /// Does what `run_with` does, and answers what people are told besides the status: which word is wrong, which file could
-/// not be read, where a file has its fault and what must stand there, that a write failed, or, of a job that was done, why its
-/// first plan has no path where nothing is free at its start or its goal.
+/// not be read, where a file has its fault and what must stand there, that a write failed, or, of a job that was done, a line for
+/// each plan that has no path because nothing is free at its start or its goal.
 pub fn run_to_end<R: Threads + Wait + Sync, D: Desk, T: Gate + Sync>(
     rt: &R,
     alloc: Global,
@@ -38,8 +38,8 @@ pub fn run_to_end<R: Threads + Wait + Sync, D: Desk, T: Gate + Sync>(
         publisher.new.published (number_of result.status) }
     ensures headline { IsHeadline (map string_bytes words.now) (D.state desk.old) (D.state desk.new)
         (number_of result.status) }
-    ensures told { IsTold (job_named words.now) (D.state desk.old) (D.state desk.new) (number_of result.status)
-        (message_of result) }
+    ensures told { IsTold (job_named words.now) (D.state desk.old) (D.state desk.new) publisher.old.published
+        (number_of result.status) (message_of result) }
     ensures board { publisher.new.board ≡ publisher.old.board }
     ensures frame { WritesOnly (MayBeWritten (job_named words.now)) (D.state desk.old) (D.state desk.new) }
 {

@@ -1,5 +1,5 @@
 -- The plans of a job, from how its planning ends.
-use Rattle.std.proofs.Common.{◌≡◌, ℕ, ◌+◌, ◌∙◌, Bool, List, Option, None, Some, IfSome, length, ap, subst, sym, arith}
+use Rattle.std.proofs.Common.{◌≡◌, ℕ, ◌+◌, ◌∙◌, Bool, List, [], Option, None, Some, IfSome, length, ap, subst, sym, arith}
 use Rattle.sbpl_checks.specs.sbpl_job.declared.job.Outputs.{Outputs}
 use Rattle.sbpl_checks.specs.sbpl_job.declared.job.SearchJob.{SearchJob}
 use Rattle.sbpl_checks.specs.sbpl_job.Jobs.{may_move}
@@ -14,21 +14,21 @@ use Rattle.sbpl_checks.specs.sbpl_promises.declared.updates.Updates.{Updates}
 use Rattle.sbpl_checks.specs.sbpl_report.declared.record.PlanRecord.{PlanRecord}
 
 -- where the planner searches a site this way, its plans there are plans on the site
-pub as_told : {W : Type 0} (on : Site W) {written_of : PlanRecord → List Write} {w : W}
+pub as_told : {W : Type 0} (on : Site W) {written_of : PlanRecord → List Write} {told_of : PlanRecord → List ℕ} {w : W}
     {batches : _} {how : SearchJob} {outputs : Outputs} {starts : ℕ → ℕ} {goal : ℕ}
-    {log shown : List Entry} {a b : DeskState} {status : ℕ}
+    {log shown : List Entry} {why : List ℕ} {a b : DeskState} {status : ℕ}
     (back : Bool) → may_move how.planner ≡ back
-    → EndsPlans (planner_as_is (searched_on on back) how.planner) written_of w batches how outputs starts goal 0 log shown None a b status
-    → EndsPlans (planner_for on how.planner) written_of w batches how outputs starts goal 0 log shown None a b status
-as_told {W} on {written_of} {w} {batches} {how} {outputs} {starts} {goal} {log} {shown} {a} {b} {status} back is ends =
-    subst (λ (x : Bool). EndsPlans (planner_as_is (searched_on on x) how.planner) written_of w batches how outputs starts goal 0
-    log shown None a b status) (sym is) ends
+    → EndsPlans (planner_as_is (searched_on on back) how.planner) written_of told_of w batches how outputs starts goal 0 log shown [] why None a b status
+    → EndsPlans (planner_for on how.planner) written_of told_of w batches how outputs starts goal 0 log shown [] why None a b status
+as_told {W} on {written_of} {told_of} {w} {batches} {how} {outputs} {starts} {goal} {log} {shown} {why} {a} {b} {status} back is ends =
+    subst (λ (x : Bool). EndsPlans (planner_as_is (searched_on on x) how.planner) written_of told_of w batches how outputs starts goal 0
+    log shown [] why None a b status) (sym is) ends
 
 -- plans that begin on the map as it is, with nothing planned before
-module _ {W : Type 0} (on : Site W) {written_of : PlanRecord → List Write} {w : W} {how : SearchJob} {outputs : Outputs}
-    {goal : ℕ} {log shown : List Entry} {a b : DeskState} {status : ℕ} (updates : Updates) (start : ℕ)
-    (e : EndsPlans (planner_for on how.planner) written_of w updates.batches how outputs
-    (start_after on.reporting w start updates.moves) goal 0 log shown None a b status) where
+module _ {W : Type 0} (on : Site W) {written_of : PlanRecord → List Write} {told_of : PlanRecord → List ℕ} {w : W} {how : SearchJob} {outputs : Outputs}
+    {goal : ℕ} {log shown : List Entry} {why : List ℕ} {a b : DeskState} {status : ℕ} (updates : Updates) (start : ℕ)
+    (e : EndsPlans (planner_for on how.planner) written_of told_of w updates.batches how outputs
+    (start_after on.reporting w start updates.moves) goal 0 log shown [] why None a b status) where
   count : 0 + length e.records ≡ length e.records
   count = omega arith
 

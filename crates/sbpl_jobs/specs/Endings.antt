@@ -1,10 +1,7 @@
 -- How a job ended, and how a run did.
-use Rattle.std.specs.Prelude.{◌≡◌, ℕ, List, Option}
+use Rattle.std.specs.Prelude.{List, Option}
 use Rattle.sbpl_checks.specs.sbpl_job.declared.job.Job.{Job}
-use Rattle.sbpl_checks.specs.sbpl_graph.Network.{Network}
-use Rattle.sbpl_checks.specs.sbpl_promises.Blocked.{IsBlockage, blocked_message}
 use Rattle.sbpl_checks.specs.sbpl_promises.Causes.{JobStopsFor}
-use Rattle.sbpl_checks.specs.sbpl_promises.declared.blockage.Blockage.{Blockage}
 use Rattle.sbpl_checks.specs.sbpl_promises.Explained.{ExplainsStop, IsTold, IsToldOf}
 use Rattle.sbpl_checks.specs.sbpl_promises.Promises.{EndsJob, EndsRun}
 use Rattle.sbpl_checks.specs.sbpl_promises.Published.{Entry}
@@ -18,13 +15,7 @@ use Rattle.sbpl_checks.specs.sbpl_telling.declared.ending.Ending.{Ending}
 -- a job ended so: what was written and published, and what is told
 pub record IsJobEnding (before after : DeskState) (old new : List Entry) (j : Job) (e : Ending) : Type 0 where
   pub ends : EndsJob before after old new j (number_of e.status)
-  pub told : IsToldOf before after j (number_of e.status) (message_of e)
-
--- what is told of a plan between two states of a graph, on the file of this name
-pub record IsBlockMessage (n : Network) (start goal : ℕ) (name m : List ℕ) : Type 0 where
-  pub blockage : Option Blockage
-  pub blocks : IsBlockage n start goal blockage
-  pub message : m ≡ blocked_message name blockage
+  pub told : IsToldOf before after old j (number_of e.status) (message_of e)
 
 -- a job stopped for this before anything was written, for a cause, and this is what is told of it
 pub record IsJobStop (before after : DeskState) (j : Job) (s : JobStop) : Type 0 where
@@ -34,4 +25,4 @@ pub record IsJobStop (before after : DeskState) (j : Job) (s : JobStop) : Type 0
 -- a run ended so, whose words name a job or none
 pub record IsRunEnding (named : Option Job) (before after : DeskState) (old new : List Entry) (e : Ending) : Type 0 where
   pub ends : EndsRun named before after old new (number_of e.status)
-  pub told : IsTold named before after (number_of e.status) (message_of e)
+  pub told : IsTold named before after old (number_of e.status) (message_of e)

@@ -102,7 +102,7 @@ fn demonstrate<R: Threads + Wait + Sync, D: Desk, T: Gate + Sync>(
         start,
         goal,
     };
-    make_plans(gate, alloc, lattice, &task, live, &Lines, desk)
+    make_plans(gate, alloc, lattice, &task, live, &Lines, desk).status
 }
 
 /// Draws an example, plans on it, and writes a line for each plan. Nothing is read from the desk.

@@ -1,7 +1,6 @@
 //! The jobs of the program: from the words to the written bytes.
 #![tactic(auto)]
 
-mod blocked;
 mod check_job;
 mod demo_job;
 mod nav_job;

@@ -9,10 +9,9 @@ ghost use Rattle.sbpl_checks.specs.sbpl_promises.Writing.{IsOutput, IsOutputOf, 
 ghost use Rattle.sbpl_plans.specs.Boards.{IsSamePublisher, entries_of};
 ghost use Rattle.sbpl_jobs.specs.Endings.{IsJobEnding, IsJobStop};
 
-use crate::blocked::{block_message, planned};
 use sbpl_checks::{
-    Desk, Ending, Gate, Input, JobStop, LabelFile, Nav, NavCheckJob, NavJob, Updates, Workspace,
-    check_text, read_file, read_grid_updates,
+    Desk, Ending, Gate, InFull, Input, JobStop, LabelFile, Nav, NavCheckJob, NavJob, Updates,
+    Workspace, check_text, read_file, read_grid_updates,
 };
 use sbpl_plans::{LiveBoard, Task, make_plans};
 use std::alloc::Global;
@@ -39,12 +38,6 @@ pub(crate) fn run_nav<R: Threads + Wait + Sync, D: Desk, T: Gate + Sync>(
 {
     let (nav, updates) = read_grid_updates(alloc, &job.sources, &job.changes, desk)?;
     let (start, goal) = nav.ends();
-    Nav::has_its_arcs();
-    let Ok(why) = block_message(alloc, &nav, start, goal, job.sources.env.as_str()) else {
-        drop(updates);
-        drop(nav);
-        return Err(JobStop::NoMemory);
-    };
     let task = Task {
         how: &job.search,
         outputs: &job.outputs,
@@ -52,8 +45,11 @@ pub(crate) fn run_nav<R: Threads + Wait + Sync, D: Desk, T: Gate + Sync>(
         start,
         goal,
     };
-    let status = make_plans(gate, alloc, nav, &task, live, &job.outputs, desk);
-    Ok(planned(alloc, status, why))
+    let telling = InFull {
+        outputs: &job.outputs,
+        env: &job.sources.env,
+    };
+    Ok(make_plans(gate, alloc, nav, &task, live, &telling, desk))
 }
 
 /// The grid, the map updates of the change file, and the text of the labels.

@@ -7,9 +7,8 @@ ghost use Rattle.sbpl_checks.specs.sbpl_promises.Writing.{IsOutputOf, ReadsOnly,
 ghost use Rattle.sbpl_plans.specs.Boards.{IsSamePublisher, entries_of};
 ghost use Rattle.sbpl_jobs.specs.Endings.{IsJobEnding, IsJobStop};
 
-use crate::blocked::{block_message, planned};
 use sbpl_checks::{
-    Desk, Ending, Gate, JobStop, Lattice, PlanJob, Reversed, Workspace, read_updates,
+    Desk, Ending, Gate, InFull, JobStop, Lattice, PlanJob, Reversed, Workspace, read_updates,
 };
 use sbpl_plans::{LiveBoard, Task, make_plans};
 use std::alloc::Global;
@@ -38,12 +37,6 @@ pub(crate) fn run_plan<R: Threads + Wait + Sync, D: Desk, T: Gate + Sync>(
     let moving = job.search.planner.may_move();
     let (lattice, updates) = read_updates(alloc, &job.sources, &job.changes, moving, desk)?;
     let (start, goal) = lattice.ends();
-    Lattice::has_its_arcs();
-    let Ok(why) = block_message(alloc, &lattice, start, goal, job.sources.env.as_str()) else {
-        drop(updates);
-        drop(lattice);
-        return Err(JobStop::NoMemory);
-    };
     let task = Task {
         how: &job.search,
         outputs: &job.outputs,
@@ -51,14 +44,18 @@ pub(crate) fn run_plan<R: Threads + Wait + Sync, D: Desk, T: Gate + Sync>(
         start,
         goal,
     };
+    let telling = InFull {
+        outputs: &job.outputs,
+        env: &job.sources.env,
+    };
     if moving {
         let world = Reversed::new(lattice);
-        let status = make_plans(gate, alloc, world, &task, live, &job.outputs, desk);
+        let ending = make_plans(gate, alloc, world, &task, live, &telling, desk);
         // Let go by a call: the drop of each field here would make the proof long.
         drop(updates);
-        return Ok(planned(alloc, status, why));
+        return Ok(ending);
     }
-    let status = make_plans(gate, alloc, lattice, &task, live, &job.outputs, desk);
+    let ending = make_plans(gate, alloc, lattice, &task, live, &telling, desk);
     drop(updates);
-    Ok(planned(alloc, status, why))
+    Ok(ending)
 }

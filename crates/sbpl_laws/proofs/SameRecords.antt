@@ -40,12 +40,15 @@ use Rattle.sbpl_promises.specs.sbpl_plan.Outcomes.{IsResultOf}
 use Rattle.sbpl_promises.specs.sbpl_plan.Passing.{ArePasses, Inquiry, expansions, query_at}
 use Rattle.sbpl_promises.specs.sbpl_job.declared.job.Outputs.{Outputs}
 use Rattle.sbpl_promises.specs.sbpl_job.declared.job.SearchJob.{SearchJob}
+use Rattle.sbpl_promises.specs.sbpl_report.declared.record.Blockage.{Blockage}
+use Rattle.sbpl_promises.specs.sbpl_report.declared.record.Blockage.TheVariants as blocked
 use Rattle.sbpl_promises.specs.sbpl_report.declared.record.PathStep.{PathStep}
 use Rattle.sbpl_promises.specs.sbpl_report.declared.record.PathRecord.{PathRecord}
 use Rattle.sbpl_promises.specs.sbpl_report.declared.record.PlanRecord.{PlanRecord}
 use Rattle.sbpl_promises.specs.Asked.{PlannerOn, Search, ask_of, from_by, is_determined, planner_for, planner_on, search_of, to_by, workers_of}
 use Rattle.sbpl_promises.specs.Sites.{Leads, Site, searched_on, start_after}
 use Rattle.sbpl_promises.specs.sbpl_job.Jobs.{may_move}
+use Rattle.sbpl_promises.specs.Blocked.{IsBlockage, IsBlockageOf}
 use Rattle.sbpl_promises.specs.Headline.{AreRecords, AreSteps, Carried, IsMarked, IsPlanOf, IsSearched, IsTurned}
 use Rattle.sbpl_promises.specs.Headline.{Joins, IsSameResult, expanded_before}
 use Rattle.sbpl_promises.specs.sbpl_back.Reversed.{PathsTurnOnce}
@@ -206,6 +209,27 @@ one_mark : (budget before : ℕ) (spent : Bool) (r u : PlanRecord) → expansion
 one_mark budget before true r u same a b = a.0 ∙ ap (λ (count : ℕ). Some count) same ∙ sym b.0
 one_mark budget before false r u same a b = a ∙ sym b
 
+-- ---- what is in the way
+
+one_blockage : (n : Network) (start goal : ℕ) (o p : Option Blockage) → IsBlockage n start goal o → IsBlockage n start goal p
+    → o ≡ p
+one_blockage n start goal None None a b = refl
+one_blockage n start goal None (Some blocked.Start) a b = absurd ((a b.0).0 b.1)
+one_blockage n start goal None (Some blocked.Goal) a b = absurd ((a b.0).1 b.2)
+one_blockage n start goal (Some blocked.Start) None a b = absurd ((b a.0).0 a.1)
+one_blockage n start goal (Some blocked.Start) (Some blocked.Start) a b = refl
+one_blockage n start goal (Some blocked.Start) (Some blocked.Goal) a b = absurd (b.1 a.1)
+one_blockage n start goal (Some blocked.Goal) None a b = absurd ((b a.0).1 a.2)
+one_blockage n start goal (Some blocked.Goal) (Some blocked.Start) a b = absurd (a.1 b.1)
+one_blockage n start goal (Some blocked.Goal) (Some blocked.Goal) a b = refl
+
+-- what is in the way of a plan with this result is determined
+one_cause : (n : Network) (start goal : ℕ) (result : PlanResult PathRecord) (o p : Option Blockage)
+    → IsBlockageOf n start goal result o → IsBlockageOf n start goal result p → o ≡ p
+one_cause n start goal (outcome.Path path) o p a b = a ∙ sym b
+one_cause n start goal outcome.NoPath o p a b = one_blockage n start goal o p a b
+one_cause n start goal outcome.Unknown o p a b = a ∙ sym b
+
 -- ---- a plan
 
 -- what stays the same over a plan: the start, how many states there are, and that the start has no back arc
@@ -282,12 +306,14 @@ module _ {W : Type 0} (on : Site W) (Alike : W → W → Type 0) (alike : AreAli
       → on.cells.is_made (on.cells.over w m) → on.reporting.told (on.cells.over w m) ≡ on.reporting.told (on.cells.over v m)
       → AreCarried on Alike alike w v both_alike before → r.plan ≡ u.plan
       → Joins by.on (on.cells.over w m) start goal r.outcome → Joins by.on (on.cells.over v m) start goal u.outcome
+      → IsBlockageOf (on.reporting.told (on.cells.over w m)) start goal r.outcome r.blockage
+      → IsBlockageOf (on.reporting.told (on.cells.over v m)) start goal u.outcome u.blockage
       → IsSearched by (on.cells.over w m) how outputs start goal before carried r
       → IsSearched by (on.cells.over v m) how outputs start goal before other u
       → r.incumbent ≡ newest (with_plan log r) → u.incumbent ≡ newest (with_plan log u)
       → AreOneRecord (on.reporting.told (on.cells.over w m)).states carried other r u
-  one_record m how outputs start goal log before carried other r u made same begins_alike number joins joins' x
-      y newest_is newest_is' =
+  one_record m how outputs start goal log before carried other r u made same begins_alike number joins joins'
+      cause cause' x y newest_is newest_is' =
       let here : W = on.cells.over w m in
       let there : W = on.cells.over v m in
       let a : Alike here there = alike.over w v m both_alike in
@@ -327,6 +353,10 @@ module _ {W : Type 0} (on : Site W) (Alike : W → W → Type 0) (alike : AreAli
       let outcomes : r.outcome ≡ u.outcome =
       one_told on Alike alike back here there a same start goal x.told.result r.outcome u.outcome
       x.told.same told joins joins' in
+      let blockage : r.blockage ≡ u.blockage =
+      one_cause (on.reporting.told here) start goal u.outcome r.blockage u.blockage
+      (subst (λ (o : PlanResult PathRecord). IsBlockageOf (on.reporting.told here) start goal o r.blockage) outcomes cause)
+      (subst (λ (k : Network). IsBlockageOf k start goal u.outcome u.blockage) (sym same) cause') in
       let all : r.passes ≡ u.passes = x.lines ∙ ap (map (traced_pass by.line)) one.passes ∙ sym y.lines in
       let counts : expansions r.passes ≡ expansions u.passes = ap expansions all in
       let expanded : r.expanded ≡ u.expanded = x.expanded ∙ counts ∙ sym y.expanded in
@@ -358,6 +388,7 @@ module _ {W : Type 0} (on : Site W) (Alike : W → W → Type 0) (alike : AreAli
           expanded = expanded i;
           spent = spent i;
           outcome = outcomes i;
+          blockage = blockage i;
           labels = labels i;
           incumbent = incumbent i;
         };
@@ -394,7 +425,8 @@ module _ {W : Type 0} (on : Site W) (Alike : W → W → Type 0) (alike : AreAli
         alike.graph _ _ (alike.over w v carried.map both_alike) left.2.is_world plan.is_world in
         let one =
         one_record carried.map how outputs (starts k) goal log before carried other r u left.2.is_world same
-        begins_alike (left.2.number ∙ sym plan.number) left.2.promises.joins plan.promises.joins left.2.searched
+        begins_alike (left.2.number ∙ sym plan.number) left.2.promises.joins plan.promises.joins
+        left.2.promises.blocked plan.promises.blocked left.2.searched
         plan.searched left.2.incumbent plan.incumbent in
         let both : carried ≡ other = λ i. record { map = maps i; labels = one.labels i; expanded = one.expanded i } in
         let later : AreCarried on Alike alike w v both_alike (Some carried) =

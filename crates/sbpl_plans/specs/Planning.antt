@@ -56,10 +56,10 @@ pub record IsPublishedInPart {W : Type 0} (by : PlannerOn W) (w : W) (how : Sear
   pub broken : (found ≡ []) ⊎ IsBrokenOff by w how outputs start goal before found
   pub shown_is : shown ≡ with_paths log k 0 found
 
--- what is written of plan k in a world, and whether it was; what was published before it and after
-abbrev pub EndsOnePlan : {W : Type 0} → PlannerOn W → (PlanRecord → List Write) → W → SearchJob → Outputs → (start goal k : ℕ) → (log shown : List Entry) → Option Carried → Carried → (old new : DeskState) → Result (Unit {0}) WriteStop → Type 0
-EndsOnePlan by written_of w how outputs start goal k log shown before carried old new (Ok _) =
-    (r : PlanRecord) × IsPublishedPlan by w how outputs start goal k log shown before carried r × AreAppended old new (written_of r)
-EndsOnePlan by written_of w how outputs start goal k log shown before carried old new (Err e) =
+-- what is written of plan k in a world, and whether it was, and what is told of it besides; what was published before it and after
+abbrev pub EndsOnePlan : {W : Type 0} → PlannerOn W → (PlanRecord → List Write) → (PlanRecord → List ℕ) → W → SearchJob → Outputs → (start goal k : ℕ) → (log shown : List Entry) → Option Carried → Carried → (old new : DeskState) → Result (List ℕ) WriteStop → Type 0
+EndsOnePlan by written_of told_of w how outputs start goal k log shown before carried old new (Ok line) =
+    (r : PlanRecord) × IsPublishedPlan by w how outputs start goal k log shown before carried r × AreAppended old new (written_of r) × (line ≡ told_of r)
+EndsOnePlan by written_of told_of w how outputs start goal k log shown before carried old new (Err e) =
     ((e ≡ NoMemory) × Stays old.written new.written × IsPublishedInPart by w how outputs start goal k log shown before)
-    ⊎ ((r : PlanRecord) × IsPublishedPlan by w how outputs start goal k log shown before carried r × EndsIn {T = Unit {0}} old new (written_of r) (Err e))
+    ⊎ ((r : PlanRecord) × IsPublishedPlan by w how outputs start goal k log shown before carried r × EndsIn {T = List ℕ} old new (written_of r) (Err e))

@@ -2,6 +2,7 @@
 
 ghost use Rattle.std.specs.Prelude.{map, [], if◌then◌else◌, ◌≡◌, ◌+◌, ◌^◌, ◌<◌, ◌≤◌, ℕ, length};
 ghost use Rattle.std.specs.Prelude.{IfOk, MatchBool, None, OnErr, Option, Some};
+ghost use Rattle.sbpl_worlds.specs.sbpl_promises.Blocked.{IsBlockageOf};
 ghost use Rattle.sbpl_worlds.specs.sbpl_promises.Headline.{AreSteps, Carried, IsKnownWithin, IsNoneThere, IsPathFrom};
 ghost use Rattle.sbpl_worlds.specs.sbpl_promises.Headline.{IsSearched, IsWithinBound, KeepsPromises, Joins, JoinsStates};
 ghost use Rattle.sbpl_worlds.specs.sbpl_promises.Headline.{IsSameResult, IsToldOf};
@@ -23,8 +24,8 @@ ghost use Rattle.sbpl_worlds.specs.sbpl_plan.declared.result.PlanResult.TheVaria
 use crate::live_board::LiveBoard;
 use crate::task::{PlanStart, Task};
 use sbpl_worlds::{
-    Ask, Ended, Entry, FoundPath, NoMemory, Outputs, PathRecord, PlanRecord, PlanResult, Planned,
-    Raised, Search, SearchJob, Section, Session, Steps, Traced, Workspace, labels_of,
+    Ask, Blockage, Ended, Entry, FoundPath, NoMemory, Outputs, PathRecord, PlanRecord, PlanResult,
+    Planned, Raised, Search, SearchJob, Section, Session, Steps, Traced, Workspace, labels_of,
     traced_passes,
 };
 use std::alloc::Global;
@@ -96,6 +97,23 @@ fn outcome_of<W: Workspace>(
         PlanResult::Path(path) => Ok(PlanResult::Path(path_of(alloc, world, start, goal, path)?)),
         PlanResult::NoPath => Ok(PlanResult::NoPath),
         PlanResult::Unknown => Ok(PlanResult::Unknown),
+    }
+}
+
+/// Why a plan with this result has no path, where it has none and that is simple.
+fn blockage_of<W: Workspace>(
+    world: &W,
+    start: u32,
+    goal: u32,
+    outcome: &PlanResult<PathRecord>,
+) -> Option<Blockage>
+    requires start { start < (W.reporting.told world.now).states }
+    requires goal { goal < (W.reporting.told world.now).states }
+    ensures blockage { IsBlockageOf (W.reporting.told world.now) start goal outcome.now result }
+{
+    match outcome {
+        PlanResult::NoPath => world.blockage(start, goal),
+        PlanResult::Path(_) | PlanResult::Unknown => None,
     }
 }
 
@@ -183,12 +201,14 @@ fn record_of<W: Workspace, N: Traced + Copy>(
     ensures joins { IfOk result (λ r. Joins W.Workspace world.now start goal r.outcome) }
     ensures within_the_bound { IfOk result (λ r. IsWithinBound (W.reporting.told world.now) start goal r.outcome) }
     ensures none { IfOk result (λ r. IsNoneThere (W.reporting.told world.now) start goal r.outcome) }
+    ensures blocked { IfOk result (λ r. IsBlockageOf (W.reporting.told world.now) start goal r.outcome r.blockage) }
     ensures answered { IfOk result (λ r. (asked : ℕ) → Conclusions.IsConclusive asked planned.outcome
         → IsKnownWithin asked r.outcome) }
 {
     let passes = traced_passes(alloc, planned.passes.as_slice())?;
     let found = world.turn(alloc, start, goal, planned.outcome)?;
     let outcome = outcome_of(alloc, world, start, goal, found)?;
+    let blockage = blockage_of(world, start, goal, &outcome);
     Ok(PlanRecord {
         plan,
         raised,
@@ -196,6 +216,7 @@ fn record_of<W: Workspace, N: Traced + Copy>(
         expanded,
         spent: mark_of(planned.spent, expanded),
         outcome,
+        blockage,
         labels,
         incumbent,
     })

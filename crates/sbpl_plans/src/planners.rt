@@ -7,12 +7,11 @@ ghost use Rattle.sbpl_worlds.specs.sbpl_promises.Asked.{planner_as_is};
 ghost use Rattle.sbpl_plans.specs.Boards.{IsSamePublisher, entries_of};
 ghost use Rattle.sbpl_plans.specs.Tasks.{CanBeMade, EndsTask};
 ghost use Rattle.sbpl_worlds.specs.sbpl_promises.Writing.{WritesOnly};
-ghost use Rattle.sbpl_worlds.specs.sbpl_report.Statuses.{number_of};
 
 use crate::live_board::LiveBoard;
 use crate::plans::go_through;
 use crate::task::Task;
-use sbpl_telling::{Status, Telling};
+use sbpl_telling::{Ending, Status, Telling};
 use sbpl_worlds::{
     AdStar, Ara, Desk, Epase, Gate, Graph, NoMemory, Parts, Planner, Workspace, parallel_pass_parts,
 };
@@ -21,8 +20,8 @@ use std::sync::Wait;
 use std::thread::Threads;
 
 /// Makes and tells the plans of a task on this world by the planner that it asks for, while the map changes batch by batch,
-/// writes the last line, and answers the status. What is planned on says which way the search goes. Threads are started
-/// only by ePA*SE.
+/// writes the last line, and answers how they ended, with what people are told of them. What is planned on says which way the
+/// search goes. Threads are started only by ePA*SE.
 pub fn make_plans<
     R: Threads + Wait + Sync,
     G: Gate + Sync,
@@ -37,13 +36,13 @@ pub fn make_plans<
     live: &mut LiveBoard<R>,
     telling: &T,
     desk: &mut D,
-) -> Status
+) -> Ending
 where
     W::Best: Sync,
     requires task { CanBeMade W.Workspace world task.now }
     requires few { length (entries_of live.old) < 2 ^ 62 }
-    ensures ends { EndsTask (planner_as_is W.Workspace task.now.how.now.planner) (T.written telling.now) world task.now
-        (entries_of live.old) (entries_of live.new) (D.state desk.old) (D.state desk.new) (number_of result) }
+    ensures ends { EndsTask (planner_as_is W.Workspace task.now.how.now.planner) (T.written telling.now) (T.told telling.now) world
+        task.now (entries_of live.old) (entries_of live.new) (D.state desk.old) (D.state desk.new) result }
     ensures same { IsSamePublisher live.old live.new }
     ensures frame { WritesOnly (T.under telling.now) (D.state desk.old) (D.state desk.new) }
 {
@@ -52,11 +51,11 @@ where
     match task.how.planner {
         Planner::Ara => match Ara::open(alloc, states, from, to) {
             Ok(search) => go_through(alloc, world, search, task, live, telling, desk),
-            Err(NoMemory) => Status::NoMemory,
+            Err(NoMemory) => Ending::plain(alloc, Status::NoMemory),
         },
         Planner::AdStar | Planner::Back => match AdStar::open(alloc, states, from, to) {
             Ok(search) => go_through(alloc, world, search, task, live, telling, desk),
-            Err(NoMemory) => Status::NoMemory,
+            Err(NoMemory) => Ending::plain(alloc, Status::NoMemory),
         },
         Planner::Epase => {
             let rt = live.rt;
@@ -72,7 +71,7 @@ where
             };
             match Epase::open(alloc, make, task.how.workers, states, from, to) {
                 Ok(search) => go_through(alloc, world, search, task, live, telling, desk),
-                Err(NoMemory) => Status::NoMemory,
+                Err(NoMemory) => Ending::plain(alloc, Status::NoMemory),
             }
         }
     }

@@ -1,6 +1,6 @@
 //! The plans of a job: one on the map as it is, and one after each batch of changes.
 
-ghost use Rattle.std.specs.Prelude.{◌≡◌, ◌+◌, ◌^◌, ◌<◌, ◌≤◌, length, IfOk, None, Option};
+ghost use Rattle.std.specs.Prelude.{◌≡◌, ◌==◌, if◌then◌else◌, ◌+◌, ◌^◌, ◌<◌, ◌≤◌, ◌∷◌, ◌++◌, [], length, IfOk, None, Option};
 ghost use Rattle.sbpl_worlds.specs.sbpl_promises.Headline.{Carried};
 ghost use Rattle.sbpl_worlds.specs.sbpl_promises.Asked.{planner_on};
 ghost use Rattle.sbpl_worlds.specs.sbpl_replan.Replanning.{IsReady, standing_of};
@@ -8,21 +8,22 @@ ghost use Rattle.sbpl_plans.specs.Planning.{EndsOnePlan, GoesOnFrom, IsNewSearch
 ghost use Rattle.sbpl_plans.specs.Boards.{IsSamePublisher, entries_of};
 ghost use Rattle.sbpl_plans.specs.Tasks.{CanBeMade, CanPlan, EndsTask};
 ghost use Rattle.sbpl_worlds.specs.sbpl_plan.Asked.{MOST_PASSES};
-ghost use Rattle.sbpl_worlds.specs.sbpl_promises.Writing.{WritesOnly};
+ghost use Rattle.sbpl_worlds.specs.sbpl_promises.Intents.{last_write};
+ghost use Rattle.sbpl_worlds.specs.sbpl_promises.Writing.{EndsAs, IsOutput, WritesOnly};
 ghost use Rattle.sbpl_worlds.specs.sbpl_report.Statuses.{number_of};
 
 use crate::live_board::LiveBoard;
 use crate::plan_record::make_record;
 use crate::task::{PlanStart, Task};
-use sbpl_telling::{Status, Telling, status_after, write_last};
+use sbpl_telling::{Ending, Status, Telling, end_with, status_after};
 use sbpl_worlds::{
-    Desk, Meter, NoMemory, Search, Session, Traced, Workspace, WriteStop, place_in,
-    writes_lead_to_the_next_map,
+    Desk, ListOf, Message, Meter, NoMemory, Search, Session, Traced, Workspace, WriteStop,
+    place_in, push_bytes, writes_lead_to_the_next_map,
 };
 use std::alloc::Global;
 use std::sync::Wait;
 
-/// Makes a plan on the present map of a session, and tells it.
+/// Makes a plan on the present map of a session, writes what is written of it, and answers what people are told of it besides.
 fn make_plan<D: Desk, T: Telling, W: Workspace + Drop, S: Search<W, W::Best> + Drop, B: Wait>(
     alloc: Global,
     session: &mut Session<W, W::Best, S>,
@@ -31,14 +32,15 @@ fn make_plan<D: Desk, T: Telling, W: Workspace + Drop, S: Search<W, W::Best> + D
     live: &mut LiveBoard<B>,
     telling: &T,
     desk: &mut D,
-) -> Result<(), WriteStop>
+) -> Result<Message, WriteStop>
 where
     S::Action: Traced,
     requires can { CanPlan W.Workspace S.meaning W.Best.is_made_for task.now at session.old }
     requires few { length (entries_of live.old) + MOST_PASSES < 2 ^ 63 }
     ensures ends { (before : Option Carried)
         → GoesOnFrom S.meaning W.Workspace session.old.world at.start task.now.goal before (standing_of session.old)
-        → EndsOnePlan (planner_on W.Workspace S.meaning S.Action.line) (T.written telling.now) session.old.world
+        → EndsOnePlan (planner_on W.Workspace S.meaning S.Action.line) (T.written telling.now) (T.told telling.now)
+        session.old.world
         task.now.how.now task.now.outputs.now at.start task.now.goal at.plan (entries_of live.old) (entries_of live.new) before
         (carried_of (W.cells.map session.old.world) (standing_of session.new)) (D.state desk.old) (D.state desk.new) result }
     ensures ready { IfOk result (λ _. IsReady S.meaning W.network W.Best.is_made_for session.new) }
@@ -79,8 +81,20 @@ fn open_session<W: Workspace + Drop, S: Search<W, W::Best> + Drop>(
     Ok(session)
 }
 
+/// Adds what is told of the last plan to what is told of those before it, writes the last line, and answers how the plans ended.
+fn end_plans<D: Desk>(alloc: Global, mut why: Vec<u8>, line: Message, desk: &mut D) -> Ending
+    ensures ends { EndsAs (D.state desk.old) (D.state desk.new) (last_write ∷ []) 0 (number_of result.status) }
+    ensures told { result.why ≡ (if number_of result.status == 0 then why.items ++ line else []) }
+    ensures frame { WritesOnly IsOutput (D.state desk.old) (D.state desk.new) }
+{
+    match push_bytes(&mut why, line.as_slice()) {
+        Ok(()) => end_with(alloc, b"done\n", Status::Done, ListOf::of(why), desk),
+        Err(NoMemory) => Ending::plain(alloc, Status::NoMemory),
+    }
+}
+
 /// Makes and tells the plans of a task on this world, while its map changes batch by batch and the start moves where it
-/// may, writes the last line, and answers the status. The search has made no pass yet.
+/// may, writes the last line, and answers how they ended. The search has made no pass yet.
 pub(crate) fn go_through<
     D: Desk,
     T: Telling,
@@ -95,7 +109,7 @@ pub(crate) fn go_through<
     live: &mut LiveBoard<B>,
     telling: &T,
     desk: &mut D,
-) -> Status
+) -> Ending
 where
     S::Action: Traced,
     requires task { CanBeMade W.Workspace world task.now }
@@ -103,8 +117,8 @@ where
     requires new { IsNewSearch S.meaning W.Workspace world task.now.how.now task.now.start task.now.goal
         (S.state search) }
     requires serves { S.serves search }
-    ensures ends { EndsTask (planner_on W.Workspace S.meaning S.Action.line) (T.written telling.now) world task.now
-        (entries_of live.old) (entries_of live.new) (D.state desk.old) (D.state desk.new) (number_of result) }
+    ensures ends { EndsTask (planner_on W.Workspace S.meaning S.Action.line) (T.written telling.now) (T.told telling.now) world
+        task.now (entries_of live.old) (entries_of live.new) (D.state desk.old) (D.state desk.new) result }
     ensures same { IsSamePublisher live.old live.new }
     ensures frame { WritesOnly (T.under telling.now) (D.state desk.old) (D.state desk.new) }
 {
@@ -112,22 +126,27 @@ where
     writes_lead_to_the_next_map();
     let mut session = match open_session(alloc, world, search, task, live.meter) {
         Ok(session) => session,
-        Err(NoMemory) => return Status::NoMemory,
+        Err(NoMemory) => return Ending::plain(alloc, Status::NoMemory),
     };
     let updates = task.updates;
     let mut start = task.start;
+    let mut why = Vec::new(alloc);
     for k in 0..updates.batches.batches() {
         let at = PlanStart { plan: k, start };
-        if let Err(stop) = make_plan(alloc, &mut session, task, at, live, telling, desk) {
-            return status_after(Err(stop), Status::NoMemory);
+        let line = match make_plan(alloc, &mut session, task, at, live, telling, desk) {
+            Ok(line) => line,
+            Err(stop) => return Ending::plain(alloc, status_after(Err(stop), Status::NoMemory)),
+        };
+        if let Err(NoMemory) = push_bytes(&mut why, line.as_slice()) {
+            return Ending::plain(alloc, Status::NoMemory);
         }
         if let Err(NoMemory) = session.change(alloc, updates.batches.batch(k)) {
-            return Status::NoMemory;
+            return Ending::plain(alloc, Status::NoMemory);
         }
         start = session.world().start_at(place_in(updates, k), start);
         let (_from, to) = W::way(start, task.goal);
         if let Err(NoMemory) = session.aim(alloc, to) {
-            return Status::NoMemory;
+            return Ending::plain(alloc, Status::NoMemory);
         }
     }
     let last = PlanStart {
@@ -135,7 +154,7 @@ where
         start,
     };
     match make_plan(alloc, &mut session, task, last, live, telling, desk) {
-        Ok(()) => status_after(write_last(desk), Status::Done),
-        Err(stop) => status_after(Err(stop), Status::NoMemory),
+        Ok(line) => end_plans(alloc, why, line, desk),
+        Err(stop) => Ending::plain(alloc, status_after(Err(stop), Status::NoMemory)),
     }
 }

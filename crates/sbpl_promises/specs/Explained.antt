@@ -1,4 +1,4 @@
--- What people are told of a run: why it did not do its job, or why its first plan has no path.
+-- What people are told of a run: why it did not do its job, or why plans of it have no path.
 use Rattle.std.specs.Prelude.{◌≡◌, ◌==◌, ◌&&◌, ◌||◌, ℕ, Bool, true, false, List, [], Option, Some, None, codes}
 use Rattle.sbpl_report.specs.sbpl_cfg.Environment.{Environment}
 use Rattle.sbpl_report.specs.sbpl_cfg.Faults as env_faults
@@ -11,6 +11,8 @@ use Rattle.sbpl_report.specs.sbpl_cert.declared.fault.LabelFault.{LabelFault}
 use Rattle.sbpl_report.specs.sbpl_lists.Messages.{IsMessageAt, IsMessageOnLine, IsPlainMessage}
 use Rattle.sbpl_report.specs.sbpl_job.declared.job.Job.{Job}
 use Rattle.sbpl_report.specs.sbpl_job.declared.job.Job.TheVariants as job
+use Rattle.sbpl_report.specs.sbpl_job.declared.job.Outputs.{Outputs}
+use Rattle.sbpl_report.specs.sbpl_job.declared.job.SearchJob.{SearchJob}
 use Rattle.sbpl_report.specs.sbpl_job.declared.job.Sources.{Sources}
 use Rattle.sbpl_report.specs.declared.refusal.Input.{Input}
 use Rattle.sbpl_report.specs.declared.refusal.Input.TheVariants as input
@@ -19,12 +21,12 @@ use Rattle.sbpl_report.specs.declared.refusal.Refusal.TheVariants as refusal
 use Rattle.sbpl_report.specs.declared.refusal.JobStop.{JobStop}
 use Rattle.sbpl_report.specs.declared.refusal.JobStop.TheVariants as stop
 use Rattle.sbpl_report.specs.Refusals.{file_name, input_name}
-use Rattle.sbpl_promises.specs.declared.blockage.Blockage.{Blockage}
 use Rattle.sbpl_promises.specs.declared.section_stop.SectionStop.TheVariants as section
-use Rattle.sbpl_promises.specs.Blocked.{IsBlockage, blocked_message}
+use Rattle.sbpl_promises.specs.Blocked.{blocked_lines}
 use Rattle.sbpl_promises.specs.Causes.{IsReadText, check_files, grid_files, plan_files}
 pub use Rattle.sbpl_promises.specs.Causes.{program}
-use Rattle.sbpl_promises.specs.Promises.{AtJob, IsJudged, IsRefused}
+use Rattle.sbpl_promises.specs.Promises.{AtJob, IsJudged, IsRefused, IsReported}
+use Rattle.sbpl_promises.specs.Published.{Entry}
 use Rattle.sbpl_promises.specs.Texts.{HasChangeFault, HasEnvironmentFault, HasGridFault, HasPrimitiveFault, Scope}
 use Rattle.sbpl_promises.specs.WorldFiles.{WorldFiles}
 use Rattle.sbpl_promises.specs.Writing.{DeskState, Told}
@@ -120,40 +122,30 @@ IsFlawExplained (job.Check j) m = IsPlainMessage j.labels m
 IsFlawExplained (job.NavCheck j) m = IsPlainMessage j.labels m
 IsFlawExplained _ m = ⊥
 
--- In a world that the files stand for, whose graph has just the arcs that they say, the first plan goes from a start to a goal; and what is in
--- the way of each path between them is told on the file of this name, or nothing where nothing simple is.
-pub record IsBlockExplained {W : Type 0} (held : Told) (f : WorldFiles W) (name m : List ℕ) : Type 0 where
-  pub world : W
-  pub says : f.stand_for held world
-  pub arcs : f.on.reporting.arcs (f.on.reporting.told world) world
-  pub start : ℕ
-  pub goal : ℕ
-  pub start_is : f.on.reporting.starts world start
-  pub goal_is : f.on.reporting.ends world goal
-  pub blockage : Option Blockage
-  pub blocks : IsBlockage (f.on.reporting.told world) start goal blockage
-  pub message : m ≡ blocked_message name blockage
+-- Plans of these files were reported, and on the file of this name a line is told of each that has no path for a simple reason, in order.
+pub record IsBlockExplained {W : Type 0} (before after : DeskState) (old : List Entry) (f : WorldFiles W) (changes : Option (List ℕ)) (search : SearchJob) (outputs : Outputs) (name m : List ℕ) : Type 0 where
+  pub reported : IsReported before after old f changes search outputs
+  pub message : m ≡ blocked_lines name reported.records
 
--- what is told of a job that was done: why its first plan has no path, on its environment file, if that is simple; and nothing of any other
--- job
-abbrev pub IsToldDone : Told → Job → List ℕ → Type 0
-IsToldDone held (job.Plan j) m = IsBlockExplained held (plan_files j) j.sources.env m
-IsToldDone held (job.Nav j) m = IsBlockExplained held (grid_files j.sources) j.sources.env m
-IsToldDone held _ m = m ≡ []
+-- what is told of a job that was done: why plans have no path, on its environment file, where that is simple; and nothing of any other job
+abbrev pub IsToldDone : (before after : DeskState) → (old : List Entry) → Job → List ℕ → Type 0
+IsToldDone before after old (job.Plan j) m = IsBlockExplained before after old (plan_files j) j.changes j.search j.outputs j.sources.env m
+IsToldDone before after old (job.Nav j) m = IsBlockExplained before after old (grid_files j.sources) j.changes j.search j.outputs j.sources.env m
+IsToldDone before after old _ m = m ≡ []
 
 -- What is told of a job that ended with a status: of its refusal, whose line the report has; of a flaw or a fault in its labels; that a write
--- failed; where it was done, why its first plan has no path, if that is simple; or nothing, where memory ran out.
-pub data IsToldOf (before after : DeskState) (j : Job) (status : ℕ) (m : List ℕ) : Type 0 where
-  of_refusal : (x : IsRefused before after status j) → Explains before.held (input_name j) x.refusal m → IsToldOf before after j status m
-  of_done : status ≡ 0 → IsToldDone before.held j m → IsToldOf before after j status m
-  of_flaw : status ≡ 1 → IsFlawExplained j m → IsToldOf before after j status m
-  of_labels : status ≡ 10 → IsLabelFaultExplained before after j m → IsToldOf before after j status m
-  of_write : status ≡ 7 → m ≡ unwritten_text → IsToldOf before after j status m
-  nothing : status ≡ 9 → m ≡ [] → IsToldOf before after j status m
+-- failed; where it was done, why plans have no path, if that is simple; or nothing, where memory ran out. These entries were published before it.
+pub data IsToldOf (before after : DeskState) (old : List Entry) (j : Job) (status : ℕ) (m : List ℕ) : Type 0 where
+  of_refusal : (x : IsRefused before after status j) → Explains before.held (input_name j) x.refusal m → IsToldOf before after old j status m
+  of_done : status ≡ 0 → IsToldDone before after old j m → IsToldOf before after old j status m
+  of_flaw : status ≡ 1 → IsFlawExplained j m → IsToldOf before after old j status m
+  of_labels : status ≡ 10 → IsLabelFaultExplained before after j m → IsToldOf before after old j status m
+  of_write : status ≡ 7 → m ≡ unwritten_text → IsToldOf before after old j status m
+  nothing : status ≡ 9 → m ≡ [] → IsToldOf before after old j status m
 
 -- What is told of a run, whose words name a job or none: of the job; of the words; that a write failed; or nothing, where memory ran out.
-pub data IsTold (named : Option Job) (before after : DeskState) (status : ℕ) (m : List ℕ) : Type 0 where
-  by_job : AtJob named (λ j. IsToldOf before after j status m) → IsTold named before after status m
-  of_words : named ≡ None → status ≡ 2 → IsPlainMessage program m → IsTold named before after status m
-  unwritten : status ≡ 7 → m ≡ unwritten_text → IsTold named before after status m
-  out_of_memory : status ≡ 9 → m ≡ [] → IsTold named before after status m
+pub data IsTold (named : Option Job) (before after : DeskState) (old : List Entry) (status : ℕ) (m : List ℕ) : Type 0 where
+  by_job : AtJob named (λ j. IsToldOf before after old j status m) → IsTold named before after old status m
+  of_words : named ≡ None → status ≡ 2 → IsPlainMessage program m → IsTold named before after old status m
+  unwritten : status ≡ 7 → m ≡ unwritten_text → IsTold named before after old status m
+  out_of_memory : status ≡ 9 → m ≡ [] → IsTold named before after old status m

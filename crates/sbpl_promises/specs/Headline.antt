@@ -22,6 +22,7 @@ use Rattle.sbpl_report.specs.declared.record.PathRecord.{PathRecord}
 use Rattle.sbpl_report.specs.declared.record.PlanRecord.{PlanRecord}
 use Rattle.sbpl_report.specs.sbpl_job.declared.job.Outputs.{Outputs}
 use Rattle.sbpl_report.specs.sbpl_job.declared.job.SearchJob.{SearchJob}
+use Rattle.sbpl_promises.specs.Blocked.{IsBlockageOf}
 use Rattle.sbpl_promises.specs.Asked.{PlannerOn, ask_of, from_by, planner_for, to_by, workers_of}
 use Rattle.sbpl_promises.specs.Sites.{Leads, Site, start_after}
 use Rattle.sbpl_report.specs.Traces.{traced_pass}
@@ -86,11 +87,13 @@ pub record IsToldOf (leads : (found path : List ℕ) → Type 0) (found : PlanRe
   pub turned : IsTurned leads found result
   pub same : IsSameResult result told
 
--- what is promised of a plan between two states: 'asked' is the bound that was asked, in thousandths
+-- what is promised of a plan between two states: 'asked' is the bound that was asked, in thousandths; where it has no path, what is told of it is what
+-- is in the way
 pub record KeepsPromises {W : Type 0} (on : Site W) (w : W) (start goal asked : ℕ) (r : PlanRecord) : Type 0 where
   pub joins : Joins on w start goal r.outcome
   pub within_the_bound : IsWithinBound (on.reporting.told w) start goal r.outcome
   pub none : IsNoneThere (on.reporting.told w) start goal r.outcome
+  pub blocked : IsBlockageOf (on.reporting.told w) start goal r.outcome r.blockage
   pub unless_spent : r.spent ≡ None → IsKnownWithin asked r.outcome
 
 -- what the plans of a run leave to the next one: the map of the last of them, its final labels, and how many states all of

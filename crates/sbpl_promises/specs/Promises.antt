@@ -1,5 +1,5 @@
 -- What the program promises of its status and of what it writes.
-use Rattle.std.specs.Prelude.{◌≡◌, ◌==◌, IsTrue, ℕ, suc, ◌+◌, ◌^◌, ◌<◌, ◌≤◌, ◌⊎◌, Bool, true, List, [], ◌++◌, flat_map, length, Option, Some, None}
+use Rattle.std.specs.Prelude.{◌≡◌, ◌==◌, if◌then◌else◌, IsTrue, ℕ, suc, ◌+◌, ◌^◌, ◌<◌, ◌≤◌, ◌⊎◌, Bool, true, List, [], ◌++◌, flat_map, length, Option, Some, None}
 use Rattle.std.specs.List.{list_any}
 use Rattle.sbpl_report.specs.sbpl_cfg.declared.fault.EnvFault.{EnvFault}
 use Rattle.sbpl_report.specs.sbpl_cfg.Environment.{Environment}
@@ -179,9 +179,9 @@ pub record EndsJob (before after : DeskState) (old new : List Entry) (j : Job) (
   pub begins : BeginsAfter intent old
   pub published : new ≡ published_by intent old
 
--- how the making of plans, the first of which is plan k, ends by the program's status, and what was published before it and after;
--- what is written of a plan is given
-pub record EndsPlans {W : Type 0} (by : PlannerOn W) (written_of : PlanRecord → List Write) (w : W) (batches : List (List change.Write)) (how : SearchJob) (outputs : Outputs) (starts : ℕ → ℕ) (goal k : ℕ) (log shown : List Entry) (left : Option Carried) (before after : DeskState) (status : ℕ) : Type 0 where
+-- How the making of plans, the first of which is plan k, ends by the program's status; what was published and what people were to be told before it, and
+-- after. What is written and what is told of a plan is given, and it is told where all were made and written.
+pub record EndsPlans {W : Type 0} (by : PlannerOn W) (written_of : PlanRecord → List Write) (told_of : PlanRecord → List ℕ) (w : W) (batches : List (List change.Write)) (how : SearchJob) (outputs : Outputs) (starts : ℕ → ℕ) (goal k : ℕ) (log shown : List Entry) (told why : List ℕ) (left : Option Carried) (before after : DeskState) (status : ℕ) : Type 0 where
   pub records : List PlanRecord
   pub all : Bool
   pub broken : List Found
@@ -192,6 +192,7 @@ pub record EndsPlans {W : Type 0} (by : PlannerOn W) (written_of : PlanRecord �
   pub few : k + length records ≤ length batches + 1
   pub all_made : all ≡ true → k + length records ≡ length batches + 1
   pub ends : EndsAs before after (flat_map written_of records ++ end_writes all) (plans_status all) status
+  pub why_is : why ≡ (if status == 0 then told ++ flat_map told_of records else [])
 
 -- how a run ends, whose words name a job or none, and what was published before it and after
 pub data EndsRun (named : Option Job) (before after : DeskState) (old new : List Entry) (status : ℕ) : Type 0 where

@@ -1,12 +1,10 @@
 //! What the program promises of the status that it answers and of what it writes, as definitions.
 #![tactic(auto)]
 
-mod blockage;
 mod laws;
 mod section_stop;
 mod updates;
 
-pub use blockage::Blockage;
 pub use laws::causes_stand;
 pub use section_stop::SectionStop;
 pub use updates::Updates;
@@ -111,7 +109,8 @@ pub use sbpl_report::{
 
 // Of `sbpl_report`.
 pub use sbpl_report::{
-    Ended, Input, JobStop, PathEnd, PathRecord, PathStep, PlanRecord, Raised, Refusal, ReportPose,
-    Status, Steps, TraceLine, Traced, demo_line, fault_line, flaw_line, holds_line, incumbent_line,
-    labels_of, labels_text, listing_at, plan_line, refusal_line, trace_of, traced_passes,
+    Blockage, Ended, Input, JobStop, PathEnd, PathRecord, PathStep, PlanRecord, Raised, Refusal,
+    ReportPose, Status, Steps, TraceLine, Traced, demo_line, fault_line, flaw_line, holds_line,
+    incumbent_line, labels_of, labels_text, listing_at, plan_line, refusal_line, trace_of,
+    traced_passes,
 };

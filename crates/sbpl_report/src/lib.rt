@@ -16,7 +16,9 @@ mod trace;
 pub use check_lines::{flaw_line, holds_line};
 pub use ended::Ended;
 pub use labels::{labels_of, labels_text};
-pub use record::{PathRecord, PathStep, PlanRecord, Raised, ReportPose, Steps, TraceLine};
+pub use record::{
+    Blockage, PathRecord, PathStep, PlanRecord, Raised, ReportPose, Steps, TraceLine,
+};
 pub use refusal::{Input, JobStop, PathEnd, Refusal};
 pub use refusal_lines::{fault_line, refusal_line};
 pub use report::{demo_line, incumbent_line, plan_line};

@@ -66,6 +66,15 @@ pub struct PathRecord {
 /// States that were raised, in order.
 pub type Raised = ListOf<u32>;
 
+/// Why a plan has no path, where that is simple: what is in the way of each path between two states that differ.
+#[derive(Clone, Copy)]
+pub enum Blockage {
+    /// No arc from the start is free.
+    Start,
+    /// No arc into the goal is free.
+    Goal,
+}
+
 /// What a plan did.
 #[derive(Drop)]
 pub struct PlanRecord {
@@ -81,6 +90,8 @@ pub struct PlanRecord {
     pub spent: Option<u64>,
     /// Its result.
     pub outcome: PlanResult<PathRecord>,
+    /// Why it has no path, where it has none and that is simple.
+    pub blockage: Option<Blockage>,
     /// The section of the final labels, where they are to be written.
     pub labels: Option<Section>,
     /// The newest path that was published by the end of the plan, if there is one.

@@ -1,5 +1,5 @@
 -- How a run ended, by how the writing of its last line ended.
-use Rattle.std.proofs.Common.{◌≡◌, ℕ, List, [], Err, refl, inl, inr}
+use Rattle.std.proofs.Common.{◌≡◌, ◌==◌, if◌then◌else◌, ℕ, List, [], Err, refl, inl, inr}
 use Rattle.sbpl_promises.specs.sbpl_desk.declared.desk.WriteStop.{WriteStop}
 use Rattle.sbpl_promises.specs.sbpl_desk.declared.desk.WriteStop.TheVariants.{Failed, NoMemory}
 use Rattle.sbpl_promises.specs.Writing.{DeskState, EndsAs, EndsIn, Write, status_after}
@@ -14,6 +14,13 @@ pub ends_as : {a b : DeskState} {writes : List Write} {wanted : ℕ} {why : List
 ends_as (as_wanted is made told) = inl (is, made)
 ends_as (cut is at untold) = inr (inl (is, at))
 ends_as (ran_out is at untold) = inr (inr (is, at))
+
+-- where it is to answer status 0, it tells what it is to tell with that status alone
+pub tells_if_done : {a b : DeskState} {writes : List Write} {why : List ℕ} {e : Ending} → EndsTelling a b writes 0 why e
+    → e.why ≡ (if number_of e.status == 0 then why else [])
+tells_if_done (as_wanted is made told) = rw is told
+tells_if_done (cut is at untold) = rw is untold
+tells_if_done (ran_out is at untold) = rw is untold
 
 -- the writes were not made
 pub ends_badly : {a b : DeskState} {writes : List Write} {wanted : ℕ} {why : List ℕ} {e : Ending} (stop : WriteStop)

@@ -18,7 +18,7 @@ const UNWRITTEN: &[u8] =
 pub struct Ending {
     /// The status.
     pub status: Status,
-    /// Why the job was not done, in a line; empty where the status says it all.
+    /// Why the job was not done, or in a line each why plans have no path; empty where the status says it all.
     pub why: Message,
 }
 
@@ -34,7 +34,7 @@ impl Ending {
         }
     }
 
-    /// What people are told, a line; empty where nothing is.
+    /// What people are told, in lines; empty where nothing is.
     pub fn message(&self) -> &[u8]
         ensures message { result.now ≡ message_of self.now }
     {

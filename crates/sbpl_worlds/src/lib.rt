@@ -28,7 +28,7 @@ pub use sbpl_promises::{Graph, Guide};
 pub use sbpl_promises::{NoMemory, next_token};
 
 // Of `sbpl_lists`.
-pub use sbpl_promises::{ListOf, Message};
+pub use sbpl_promises::{ListOf, Message, push_bytes};
 
 // Of `sbpl_desk`.
 pub use sbpl_promises::{Desk, MemoryDesk, ReadStop, RealDesk, Trouble, WriteStop};

@@ -3,6 +3,7 @@ use Rattle.std.proofs.lemmas.Bool.{false≢true}
 use Rattle.sbpl_jobs.specs.sbpl_promises.Explained.{Explains, IsTold, IsToldDone, IsToldOf, by_job, has_message, nothing, of_done}
 use Rattle.sbpl_jobs.specs.sbpl_promises.Explained.{of_flaw, of_labels, of_refusal, of_words, of_write, out_of_memory, unwritten}
 use Rattle.sbpl_jobs.specs.sbpl_job.declared.job.Job.TheVariants as job
+use Rattle.sbpl_jobs.specs.sbpl_promises.Published.{Entry}
 use Rattle.sbpl_jobs.specs.sbpl_promises.Run.{IsOrUnwritten, IsStatus, Job, job_named, refusal_status}
 use Rattle.sbpl_jobs.specs.sbpl_promises.Writing.{DeskState, Told}
 use Rattle.sbpl_jobs.specs.sbpl_report.Refusals.{input_name}
@@ -47,27 +48,27 @@ refusal_quiet named held names m status (refusal.Changes f) is on quiet = absurd
 refusal_quiet named held names m status (refusal.Read i) is on quiet = absurd (not_quiet named 6 status is refl quiet)
 
 -- a job that makes plans may tell something with status 0
-done_quiet : (held : Told) (j : Job) (status : ℕ) (m : List ℕ) → status ≡ 0 → IsToldDone held j m
+done_quiet : (s u : DeskState) (old : List Entry) (j : Job) (status : ℕ) (m : List ℕ) → status ≡ 0 → IsToldDone s u old j m
     → has_message (Some j) status ≡ false → m ≡ []
-done_quiet held (job.Plan j) status m is told quiet = absurd (not_quiet (Some (job.Plan j)) 0 status (sym is) refl quiet)
-done_quiet held (job.Nav j) status m is told quiet = absurd (not_quiet (Some (job.Nav j)) 0 status (sym is) refl quiet)
-done_quiet held (job.Check j) status m is told quiet = told
-done_quiet held (job.NavCheck j) status m is told quiet = told
-done_quiet held (job.Sweep j) status m is told quiet = told
-done_quiet held (job.Demo j) status m is told quiet = told
+done_quiet s u old (job.Plan j) status m is told quiet = absurd (not_quiet (Some (job.Plan j)) 0 status (sym is) refl quiet)
+done_quiet s u old (job.Nav j) status m is told quiet = absurd (not_quiet (Some (job.Nav j)) 0 status (sym is) refl quiet)
+done_quiet s u old (job.Check j) status m is told quiet = told
+done_quiet s u old (job.NavCheck j) status m is told quiet = told
+done_quiet s u old (job.Sweep j) status m is told quiet = told
+done_quiet s u old (job.Demo j) status m is told quiet = told
 
 -- so it is of a job, and of a run
-job_quiet : {s u : DeskState} {j : Job} {status : ℕ} {m : List ℕ} → IsToldOf s u j status m
+job_quiet : {s u : DeskState} {old : List Entry} {j : Job} {status : ℕ} {m : List ℕ} → IsToldOf s u old j status m
     → has_message (Some j) status ≡ false → m ≡ []
 job_quiet {s} {j = j} {status = status} {m = m} (of_refusal x explains) quiet =
     refusal_quiet (Some j) s.held (input_name j) m status x.refusal x.has_status explains quiet
-job_quiet {s} {j = j} {status = status} {m = m} (of_done is told) quiet = done_quiet s.held j status m is told quiet
+job_quiet {s} {u} {old} {j} {status} {m} (of_done is told) quiet = done_quiet s u old j status m is told quiet
 job_quiet {j = j} {status = status} (of_flaw is told) quiet = absurd (not_quiet (Some j) 1 status (sym is) refl quiet)
 job_quiet {j = j} {status = status} (of_labels is told) quiet = absurd (not_quiet (Some j) 10 status (sym is) refl quiet)
 job_quiet {j = j} {status = status} (of_write is told) quiet = absurd (not_quiet (Some j) 7 status (sym is) refl quiet)
 job_quiet (nothing is none) quiet = none
 
-quiet_by : {named : Option Job} {s u : DeskState} {status : ℕ} {m : List ℕ} → IsTold named s u status m
+quiet_by : {named : Option Job} {s u : DeskState} {old : List Entry} {status : ℕ} {m : List ℕ} → IsTold named s u old status m
     → has_message named status ≡ false → m ≡ []
 quiet_by {status = status} (by_job (j, is, told)) quiet =
     job_quiet told (subst (λ (n : Option Job). has_message n status ≡ false) is quiet)

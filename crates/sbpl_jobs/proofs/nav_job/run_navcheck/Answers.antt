@@ -52,7 +52,7 @@ returns-clause-ends g c =
         published = refl;
       };
       told =
-          check_told _ _ files c.args.job.now.changes c.args.job.now.labels (job.NavCheck c.args.job.now) _ (to_in case)
+          check_told _ _ _ files c.args.job.now.changes c.args.job.now.labels (job.NavCheck c.args.job.now) _ (to_in case)
           ends.outcomes ends.end _ checked refl c.as_slice.ensures.value since ends.told (λ is. is) (λ is. is) (λ is. is);
     }
 

@@ -29,6 +29,7 @@ use Rattle.sbpl_plans.proofs.Observed.{same_if, shown, stands_same, then_same}
 use Rattle.sbpl_worlds.specs.sbpl_report.declared.record.PlanRecord.{PlanRecord}
 use Rattle.sbpl_worlds.specs.sbpl_promises.Asked.{PlannerOn, ask_of, from_by, planner_on, to_by, workers_of}
 use Rattle.sbpl_worlds.specs.sbpl_promises.Sites.{Leads, Site, from_of, to_of}
+use Rattle.sbpl_worlds.specs.sbpl_promises.Blocked.{IsBlockageOf}
 use Rattle.sbpl_worlds.specs.sbpl_promises.Headline.{Begins, Carried, IsKnownWithin, IsMarked, IsNoneThere, IsSearched, IsToldOf}
 use Rattle.sbpl_worlds.specs.sbpl_promises.Headline.{IsWithinBound, Joins, KeepsPromises, expanded_before}
 use Rattle.sbpl_worlds.specs.sbpl_report.Shown.{IsShown, IsThere}
@@ -256,24 +257,27 @@ promises_by : {Action W : Type 0} (on : Site W) (w : W) (start goal asked expand
     (r : Result PlanRecord NoMemory) → IfOk r (λ x. Joins on w start goal x.outcome)
     → IfOk r (λ x. IsWithinBound (on.reporting.told w) start goal x.outcome)
     → IfOk r (λ x. IsNoneThere (on.reporting.told w) start goal x.outcome)
+    → IfOk r (λ x. IsBlockageOf (on.reporting.told w) start goal x.outcome x.blockage)
     → IfOk r (λ x. MatchBool planned.spent (x.spent ≡ Some expanded) (x.spent ≡ None))
     → (planned.spent ≡ false → search.IsConclusive asked planned.outcome)
     → IfOk r (λ x. (a : ℕ) → search.IsConclusive a planned.outcome → IsKnownWithin a x.outcome)
     → IfOk r (KeepsPromises on w start goal asked)
-promises_by on w start goal asked expanded planned (Ok x) joins within none mark known answered = record {
+promises_by on w start goal asked expanded planned (Ok x) joins within none blocked mark known answered = record {
   joins = joins;
   within_the_bound = within;
   none = none;
+  blocked = blocked;
   unless_spent = λ is. answered asked (known (unmarked planned.spent expanded x mark is));
 }
-promises_by on w start goal asked expanded planned (Err e) joins within none mark known answered = tt
+promises_by on w start goal asked expanded planned (Err e) joins within none blocked mark known answered = tt
 
 pub returns-clause-promises : goal.returns-clause-promises
 returns-clause-promises g c =
     let bound = ap (λ (a : Ask). a.bound) c.ask_of-ask.ensures.ask in
     let made = rw (c.world.ensures.value, c.plan.ensures.world) at c.record_of.ensures in
     promises_by (site_of g.W.Graph g.W.Terrain g.W.Workspace) c.args.session.now.world c.args.at.start c.args.task.now.goal
-    _ _ c.in_ok-planned.planned c.record_of.result made.joins made.within_the_bound made.none made.marked
+    _ _ c.in_ok-planned.planned c.record_of.result made.joins made.within_the_bound made.none made.blocked
+    made.marked
     (λ is. subst (λ (b : ℕ). search.IsConclusive b c.in_ok-planned.planned.outcome) bound
     (c.in_ok-planned.ensures.planned.answered is)) made.answered
 

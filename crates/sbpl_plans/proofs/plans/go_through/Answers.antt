@@ -1,14 +1,14 @@
-use Rattle.std.proofs.Common.{◌≡◌, ◌<◌, ℕ, length, Option, refl, sym, subst, ap, ◌∙◌, arith}
+use Rattle.std.proofs.Common.{◌≡◌, ◌<◌, ◌++◌, ℕ, List, length, Option, refl, sym, subst, ap, ◌∙◌, arith}
 use Rattle.sbpl_worlds.specs.sbpl_cfg.declared.pose.Place.{Place}
 use Rattle.sbpl_worlds.specs.sbpl_map.ChangeText.{IsPlaceOnMap}
 use Rattle.sbpl_plans.proofs.Observed.{then_same}
-use Rattle.sbpl_plans.proofs.Going.{at_last, changes, no_more, sets_out, stops, tells_last, tells_no_more}
+use Rattle.sbpl_plans.proofs.Going.{at_last, changes, no_more, plainly, sets_out, stops, tells_last, tells_no_more}
 use Rattle.sbpl_worlds.specs.sbpl_promises.Sites.{Site, to_of}
 use Rattle.sbpl_worlds.proofs.Moving.{alike_over, move_on_map, next_is, start_first, stays_put, within}
 use Rattle.sbpl_worlds.proofs.OnMaps.{batch_on_map, same_told_states, to_inside}
 use Rattle.sbpl_worlds.proofs.Workspaces.{site_of}
-use Rattle.sbpl_telling.proofs.Writings.{status_ends}
 use Rattle.sbpl_worlds.specs.sbpl_replan.Replanning.{IsAimed, standing_of}
+use Rattle.sbpl_worlds.specs.sbpl_report.Statuses.{number_of}
 use Rattle.sbpl_plans.proofs.plans.go_through.Goals as goal
 use Rattle.sbpl_plans.proofs.plans.go_through.Goals.{After-change}
 use Rattle.sbpl_telling.proofs.Frames.{nothing_done, writes_more, writes_on}
@@ -20,7 +20,7 @@ loop-k-init g c = record {
       (c.writes_lead_to_the_next_map.ensures.first (g.W.Terrain.cells.map c.args.world)
       c.args.task.now.updates.now.batches) c.requires.task.kept
       (sym (start_first g.W.Workspace.reporting c.args.world c.args.task.now.start
-      c.args.task.now.updates.now.moves)) c.in-Ok.ensures.set c.in-Ok.ensures.begun);
+      c.args.task.now.updates.now.moves)) c.in-Ok.ensures.set c.in-Ok.ensures.begun c.new-why.ensures.items);
   ready = c.in-Ok.ensures.ready;
   inside = rw c.in-Ok.ensures.world c.requires.task.start;
   goal_inside = rw c.in-Ok.ensures.world c.requires.task.goal;
@@ -30,12 +30,20 @@ loop-k-init g c = record {
 }
 
 pub returns-in-Err-clause-ends : goal.returns-in-Err-clause-ends
-returns-in-Err-clause-ends g c = no_more (omega arith) (λ name. refl)
+returns-in-Err-clause-ends g c =
+    plainly (ap number_of c.plain.ensures.status) c.plain.ensures.untold (no_more (omega arith) (λ name. refl))
 
 pub returns-in-Err-make_plan-clause-ends : goal.returns-in-Err-make_plan-clause-ends
 returns-in-Err-make_plan-clause-ends g c =
-    stops _ (standing_of c.make_plan.new.session) _ c.loop-k.invariant.going c.in-Err-make_plan.stop
-    c.in-Err-make_plan.ensures.ends c.status_after.ensures.status
+    plainly (ap number_of c.plain-in-Err-make_plan.ensures.status) c.plain-in-Err-make_plan.ensures.untold
+    (stops _ (standing_of c.make_plan.new.session) _ c.loop-k.invariant.going c.in-Err-make_plan.stop
+    c.in-Err-make_plan.ensures.ends c.status_after.ensures.status)
+
+pub returns-in-Err-push_bytes-clause-ends : goal.returns-in-Err-push_bytes-clause-ends
+returns-in-Err-push_bytes-clause-ends g c =
+    plainly (ap number_of c.plain-in-Err-push_bytes.ensures.status) c.plain-in-Err-push_bytes.ensures.untold
+    (tells_no_more _ (standing_of c.make_plan.new.session) _ c.loop-k.invariant.going
+    c.in-Ok-make_plan.ensures.ends c.make_plan.ensures.frame.writes)
 
 pub change-requires-clause-on_map : goal.change-requires-clause-on_map
 change-requires-clause-on_map g c =
@@ -44,8 +52,9 @@ change-requires-clause-on_map g c =
 
 pub returns-in-Err-change-clause-ends : goal.returns-in-Err-change-clause-ends
 returns-in-Err-change-clause-ends g c =
-    tells_no_more _ (standing_of c.make_plan.new.session) _ c.loop-k.invariant.going
-    c.in_default.ensures.ends c.make_plan.ensures.frame.writes
+    plainly (ap number_of c.plain-in-Err-change.ensures.status) c.plain-in-Err-change.ensures.untold
+    (tells_no_more _ (standing_of c.make_plan.new.session) _ c.loop-k.invariant.going
+    c.in-Ok-make_plan.ensures.ends c.make_plan.ensures.frame.writes)
 
 pub start_at-start-requires-clause-place : goal.start_at-start-requires-clause-place
 start_at-start-requires-clause-place g c =
@@ -86,8 +95,9 @@ start_at-start-requires-clause-start g c =
 
 pub returns-in-Err-aim-clause-ends : goal.returns-in-Err-aim-clause-ends
 returns-in-Err-aim-clause-ends g c =
-    tells_no_more _ (standing_of c.make_plan.new.session) _ c.loop-k.invariant.going
-    c.in_default.ensures.ends c.make_plan.ensures.frame.writes
+    plainly (ap number_of c.plain-in-Err-aim.ensures.status) c.plain-in-Err-aim.ensures.untold
+    (tells_no_more _ (standing_of c.make_plan.new.session) _ c.loop-k.invariant.going
+    c.in-Ok-make_plan.ensures.ends c.make_plan.ensures.frame.writes)
 
 -- where the next search goes is a state
 pub aim-requires : goal.aim-requires
@@ -136,14 +146,15 @@ loop-k-preserved g c =
           rw c.aim.ensures.world (changes _ (standing_of c.make_plan.new.session) _ going
           c.is_terrain.ensures.law now c.start_at-start.result (standing_of c.change.new.self)
           (standing_of c.aim.new.self) c.batch.result.now c.writes_lead_to_the_next_map.ensures.next
-          c.in_default.ensures.ends c.make_plan.ensures.frame.writes c.in_default.ensures.set c.batch.ensures.writes
+          c.in-Ok-make_plan.ensures.ends c.make_plan.ensures.frame.writes c.in-Ok-make_plan.ensures.set c.batch.ensures.writes
           changed.written others c.change.ensures.kept
           changed.begun c.in_default-change.ensures.same c.change.ensures.counts
           (sym next) (λ still. stays_put g.W.Workspace.reporting now updates.moves k c.loop-k.start c.start_at-start.result
           c.place_in.result (c.requires.task.updates.stays still) c.place_in.ensures.place
           start.state)
           (subst (λ (t : ℕ). IsAimed t (standing_of c.change.new.self) (standing_of c.aim.new.self))
-          c.way-from.ensures.to c.in_default-aim.ensures.aimed));
+          c.way-from.ensures.to c.in_default-aim.ensures.aimed)
+          (c.in_default.ensures.appended ∙ ap (λ (l : List ℕ). c.loop-k.why.items ++ l) c.as_slice.ensures.items));
       ready = c.in_default-aim.ensures.ready;
       inside = rw c.aim.ensures.world start.inside;
       goal_inside =
@@ -154,8 +165,8 @@ loop-k-preserved g c =
       grown = let was = c.loop-k.invariant.grown in let more = c.make_plan.ensures.grown in omega arith;
     }
 
-pub returns-in-Ok-make_plan-clause-ends : goal.returns-in-Ok-make_plan-clause-ends
-returns-in-Ok-make_plan-clause-ends g c =
+pub returns-in-Ok-make_plan-2-clause-ends : goal.returns-in-Ok-make_plan-2-clause-ends
+returns-in-Ok-make_plan-2-clause-ends g c =
     tells_last _ (standing_of c.make_plan-2.new.session) _
     (at_last c.batches.result (omega (
       arith,
@@ -163,18 +174,18 @@ returns-in-Ok-make_plan-clause-ends g c =
       c.loop-k.auto.k-end,
       c.batches-k-end.ensures.value,
       c.batches.ensures.value,
-    )) c.loop-k.invariant.going) c.in-Ok-make_plan.ensures.ends c.make_plan-2.ensures.frame.writes
-    c.batches.ensures.value
-    (status_ends _ c.write_last.ensures.ends c.status_after-in-Ok-make_plan.ensures.status)
+    )) c.loop-k.invariant.going) c.in-Ok-make_plan-2.ensures.ends c.make_plan-2.ensures.frame.writes
+    c.batches.ensures.value c.end_plans.ensures.ends c.end_plans.ensures.told
 
-pub returns-in-Ok-make_plan-clause-frame : goal.returns-in-Ok-make_plan-clause-frame
-returns-in-Ok-make_plan-clause-frame g c =
+pub returns-in-Ok-make_plan-2-clause-frame : goal.returns-in-Ok-make_plan-2-clause-frame
+returns-in-Ok-make_plan-2-clause-frame g c =
     writes_on _ _ _ _ (writes_on _ _ _ _ c.loop-k.invariant.frame c.make_plan-2.ensures.frame)
-    (writes_more _ _ _ _ (g.T.Telling.output c.args.telling.now) c.write_last.ensures.frame)
+    (writes_more _ _ _ _ (g.T.Telling.output c.args.telling.now) c.end_plans.ensures.frame)
 
 pub returns-clause-ends : goal.returns-clause-ends
 returns-clause-ends g c =
-    stops _ (standing_of c.make_plan-2.new.session) _
+    plainly (ap number_of c.plain-in-Err-make_plan-2.ensures.status) c.plain-in-Err-make_plan-2.ensures.untold
+    (stops _ (standing_of c.make_plan-2.new.session) _
     (at_last c.batches.result (omega (
       arith,
       c.loop-k-test.false,
@@ -182,4 +193,19 @@ returns-clause-ends g c =
       c.batches-k-end.ensures.value,
       c.batches.ensures.value,
     )) c.loop-k.invariant.going) c.in-Err-make_plan-2.stop c.in-Err-make_plan-2.ensures.ends
-    c.status_after-in-Err-make_plan-2.ensures.status
+    c.status_after-in-Err-make_plan-2.ensures.status)
+
+pub returns-in-Err-make_plan-clause-frame : goal.returns-in-Err-make_plan-clause-frame
+returns-in-Err-make_plan-clause-frame g c = writes_on _ _ _ _ c.loop-k.invariant.frame c.make_plan.ensures.frame
+
+pub returns-in-Err-push_bytes-clause-frame : goal.returns-in-Err-push_bytes-clause-frame
+returns-in-Err-push_bytes-clause-frame g c = writes_on _ _ _ _ c.loop-k.invariant.frame c.make_plan.ensures.frame
+
+pub returns-in-Err-change-clause-frame : goal.returns-in-Err-change-clause-frame
+returns-in-Err-change-clause-frame g c = writes_on _ _ _ _ c.loop-k.invariant.frame c.make_plan.ensures.frame
+
+pub returns-in-Err-aim-clause-frame : goal.returns-in-Err-aim-clause-frame
+returns-in-Err-aim-clause-frame g c = writes_on _ _ _ _ c.loop-k.invariant.frame c.make_plan.ensures.frame
+
+pub returns-clause-frame : goal.returns-clause-frame
+returns-clause-frame g c = writes_on _ _ _ _ c.loop-k.invariant.frame c.make_plan-2.ensures.frame

@@ -15,13 +15,14 @@ invariant-loop-k g l = record {
   going : IsGoing (record {
     by = planner_on (site_of g.W.Graph g.W.Terrain g.W.Workspace) g.S.Search.meaning g.S.Action.Traced.line;
     written_of = g.T.Telling.written l.fn.telling;
+    told_of = g.T.Telling.told l.fn.telling;
     world = l.fn.world;
     batches = l.fn.task.updates.now.batches;
     how = l.fn.task.how.now;
     outputs = l.fn.task.outputs.now;
     starts = start_after g.W.Workspace.reporting l.fn.world l.fn.task.start l.fn.task.updates.now.moves;
     goal = l.fn.task.goal;
-  }) l.session.world l.k l.start (entries_of l.fn.live) (entries_of l.live) (standing_of l.session)
+  }) l.session.world l.k l.start (entries_of l.fn.live) (entries_of l.live) l.why.items (standing_of l.session)
       (g.D.Desk.state l.fn.desk) (g.D.Desk.state l.desk);
   ready : IsReady g.S.Search.meaning g.W.Graph.network g.W.Best.Heuristic.is_made_for l.session;
   inside : l.start < (g.W.Workspace.reporting.told l.session.world).states;
