@@ -2,10 +2,11 @@ pub mod Counts
 pub mod Environments
 pub mod Locating
 pub mod Boarding
+pub mod Sinking
 pub mod Settling
-pub mod Touching
 pub mod Following
 pub mod Hopping
+pub mod Doubting
 pub mod Walking
 pub mod Splitting
 pub mod Arriving

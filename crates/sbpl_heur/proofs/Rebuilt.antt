@@ -14,7 +14,7 @@ use Rattle.sbpl_cost.specs.Lattices.{network_of, states_are}
 use Rattle.sbpl_heur.specs.declared.hop.Hop.{Hop}
 use Rattle.sbpl_heur.specs.Hops.{AreHops}
 use Rattle.sbpl_heur.specs.Boards.{AreLight, Board, IsBoard, cell_count, map_of}
-use Rattle.sbpl_heur.specs.Followed.{Walking}
+use Rattle.sbpl_heur.specs.Followed.{Walking, HasLeast}
 use Rattle.sbpl_heur.specs.Weights.{IsHopWalk, AreLeast}
 use Rattle.sbpl_heur.specs.Caps.{IsFarthestReached, IsCapped, AreTurns, capped_to}
 use Rattle.sbpl_heur.specs.Bests.{Table, Fits, AreParts, IsBest, IsTable, IsGuide, distance_in}
@@ -236,10 +236,10 @@ zeros_small n i = elim (cases_lt i n) [
 pub fresh_parts : (w : World) (e : Environment) (goal room cells turns : ℕ) (walks : Walking) (distances gaps : List ℕ)
     → IsWorld w → e ≡ w.env → goal < (network_of w).states → cells ≡ e.width * e.height → turns ≡ e.headings
     → distances ≡ replicate cells 0 → gaps ≡ replicate turns 0 → cell_count walks.board ≡ cells
-    → walks.labels.start ≡ goal / turns → walks.board.room ≡ room
+    → walks.goal ≡ goal / turns → walks.board.room ≡ room → HasLeast walks
     → AreParts (record { goal = goal; cells = distances; turns = gaps; room = room }) walks
 fresh_parts w e goal room cells turns walks distances gaps is_world same inside cells_are turns_are distances_are
-    gaps_are walks_cells walks_start walks_room =
+    gaps_are walks_cells walks_goal walks_room walks_least =
     let size : length distances ≡ cells = ap length distances_are ∙ length-replicate cells 0 in
     let count : length gaps ≡ turns = ap length gaps_are ∙ length-replicate turns 0 in
     let area : cells ≡ w.env.width * w.env.height = cells_are ∙ ap (λ (z : Environment). z.width * z.height) same in
@@ -257,6 +257,7 @@ fresh_parts w e goal room cells turns walks distances gaps is_world same inside 
         turns = λ i. subst (λ l. slice_index l i < 2 ^ 55) (sym gaps_are) (zeros_small turns i);
       };
       cells = walks_cells ∙ sym size;
-      start = walks_start ∙ ap (λ n. goal / n) (sym count);
+      goal = walks_goal ∙ ap (λ n. goal / n) (sym count);
       hops = walks_room;
+      least = walks_least;
     }

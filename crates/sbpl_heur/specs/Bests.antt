@@ -8,7 +8,7 @@ use Rattle.sbpl_cost.specs.World.{World}
 use Rattle.sbpl_cost.specs.Lattices.{network_of}
 use Rattle.sbpl_heur.specs.Walks.{IsCellBound}
 use Rattle.sbpl_heur.specs.Boards.{cell_count}
-use Rattle.sbpl_heur.specs.Followed.{Walking}
+use Rattle.sbpl_heur.specs.Followed.{Walking, HasLeast}
 
 -- the number of the cell of a state
 abbrev pub cell_of : Environment → ℕ → ℕ
@@ -66,5 +66,6 @@ pub record IsBestGuide (w : World) (goal : ℕ) (b : Table) : Type 0 where
 pub record AreParts (b : Table) (walks : Walking) : Type 0 where
   pub table : IsTable b
   pub cells : cell_count walks.board ≡ length b.cells
-  pub start : walks.labels.start ≡ b.goal / length b.turns
+  pub goal : walks.goal ≡ b.goal / length b.turns
   pub hops : walks.board.room ≡ b.room
+  pub least : HasLeast walks

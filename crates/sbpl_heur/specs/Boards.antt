@@ -1,6 +1,5 @@
 -- The cells of a map as a graph, for a search backwards.
-use Rattle.std.specs.Prelude.{◌≡◌, ℕ, ℤ, pos, negsuc, ◌+◌, ◌*◌, ◌/◌, ◌%◌, ◌≤◌, ◌+ℤ◌, ◌-ℤ◌, ◌&&◌, max, List, length, slice_get, slice_index, Option, Some, None, option_and_then, option_map, nat_lt, if◌then◌else◌}
-use Rattle.sbpl_serial.specs.sbpl_graph.Network.{Network}
+use Rattle.std.specs.Prelude.{◌≡◌, ℕ, ℤ, pos, negsuc, ◌+◌, ◌*◌, ◌/◌, ◌%◌, ◌≤◌, ◌+ℤ◌, ◌-ℤ◌, ◌&&◌, max, List, length, slice_get, slice_index, Option, Some, None, option_and_then, nat_lt, if◌then◌else◌}
 use Rattle.sbpl_cost.specs.sbpl_cfg.Environment.{Environment, IsEnvironment}
 use Rattle.sbpl_cost.specs.sbpl_map.CellMap.{CellMap}
 use Rattle.sbpl_cost.specs.PrimitiveCost.{most_cost}
@@ -50,26 +49,13 @@ cell_after e p h = cell_in e (pos (p % e.width) +ℤ h.dx) (pos (p / e.width) +�
 abbrev pub step_cost : Environment → Hop → ℕ → ℕ → Option ℕ
 step_cost e h start end = if nat_lt start e.obsthresh && (nat_lt end e.obsthresh && nat_lt end e.inscribed) then Some (h.cost * (max start end + 1)) else None
 
--- where arc k of cell q leads: by hop k backwards
-unfoldable pub board_head : Board → ℕ → ℕ → Option ℕ
-board_head b q k = if nat_lt q (cell_count b) then option_and_then (cell_before b.env q) (slice_get b.hops k) else None
+-- the cell from which hop k leads to a cell, and the cell to which it leads from one; none off the map
+abbrev pub start_of : Board → ℕ → ℕ → Option ℕ
+start_of b cell k = option_and_then (cell_before b.env cell) (slice_get b.hops k)
 
--- what arc k of cell q costs
-unfoldable pub board_cost : Board → ℕ → ℕ → Option ℕ
-board_cost b q k = option_and_then (λ h. option_and_then (λ p. step_cost b.env h (slice_index b.costs p) (slice_index b.costs q)) (board_head b q k)) (slice_get b.hops k)
+abbrev pub end_of : Board → ℕ → ℕ → Option ℕ
+end_of b cell k = option_and_then (cell_after b.env cell) (slice_get b.hops k)
 
--- tail j of cell p: where hop j leads
-unfoldable pub board_tail : Board → ℕ → ℕ → Option (ℕ × ℕ)
-board_tail b p j = if nat_lt p (cell_count b) then option_and_then (λ h. option_map (λ q. (q, j)) (cell_after b.env p h)) (slice_get b.hops j) else None
-
--- the cells as a graph, reversed, with one more state that no arc leads to or from
-abbrev pub board_network : Board → Network
-board_network b = record {
-  states = cell_count b + 1;
-  fan = λ _. length b.hops;
-  head = board_head b;
-  cost = board_cost b;
-  tail_fan = λ _. length b.hops;
-  tail = board_tail b;
-  gap = λ _ _. 0;
-}
+-- what hop k costs between two cells, none where it is not free
+abbrev pub cost_of : Board → ℕ → ℕ → ℕ → Option ℕ
+cost_of b start end k = option_and_then (λ h. step_cost b.env h (slice_index b.costs start) (slice_index b.costs end)) (slice_get b.hops k)

@@ -3,6 +3,7 @@ pub mod Hops
 pub mod Boards
 pub mod Weights
 pub mod Followed
+pub mod Spots
 pub mod Caps
 pub mod Bests
 pub use Rattle.sbpl_cost.specs.sbpl_map as sbpl_map

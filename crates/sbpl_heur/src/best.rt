@@ -3,8 +3,8 @@
 ghost use Rattle.std.specs.Prelude.{◌≡◌, ℕ, ◌*◌, ◌^◌, ◌<◌, ◌≤◌, IfOk, length, slice_index};
 ghost use Rattle.sbpl_cost.specs.World.{World};
 ghost use Rattle.sbpl_cost.specs.Lattices.{network_of};
-ghost use Rattle.sbpl_serial.specs.sbpl_labels.Marks.{g_of};
 ghost use Rattle.sbpl_heur.specs.Boards.{cell_count};
+ghost use Rattle.sbpl_heur.specs.Followed.{distance};
 ghost use Rattle.sbpl_heur.specs.Bests.{IsBest, IsGuide, Fits, distance_in};
 
 use crate::cap::{cap, turn};
@@ -73,7 +73,7 @@ fn weigh(walks: &Walks, distances: &mut Vec<u64>)
     requires few { length distances.old.items ≤ 2 ^ 23 }
     ensures size { length distances.new.items ≡ length distances.old.items }
     ensures weights { (a : ℕ) → a < length distances.old.items
-        → slice_index distances.new.items a ≡ g_of walks.now.labels a }
+        → slice_index distances.new.items a ≡ distance walks.now a }
 {
     for cell in 0..distances.len() as u32 {
         distances[cell as usize] = walks.weight(cell);
@@ -132,6 +132,7 @@ impl Best {
 
 impl Heuristic<Lattice> for Best {
     ghost use Rattle.std.specs.Prelude.{true};
+    ghost use Rattle.sbpl_heur.specs.Followed.{distance};
     ghost use Rattle.sbpl_heur.specs.Bests.{IsBestGuide};
 
     ghost is_made_for = { λ b w goal. IsBestGuide w goal b };

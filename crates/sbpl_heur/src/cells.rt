@@ -1,26 +1,35 @@
-//! The cells of a map as a graph, for a search backwards.
+//! The cells of a map, and the hops between them.
 
-ghost use Rattle.std.specs.Prelude.{◌≡◌, ◌+◌, ◌*◌, ◌/◌, ◌%◌, ◌<◌, ◌≤◌, ◌↔◌, ◌+ℤ◌, pos};
+ghost use Rattle.std.specs.Prelude.{◌≡◌, ◌+◌, ◌*◌, ◌/◌, ◌%◌, ◌^◌, ◌<◌, ◌≤◌, ◌↔◌, ◌+ℤ◌, pos};
 ghost use Rattle.std.specs.Prelude.{length, slice_index, slice_set};
-ghost use Rattle.std.specs.Prelude.{IsTrue, IfOk, IfSome, IfNone, [], vec_capacity};
+ghost use Rattle.std.specs.Prelude.{IsTrue, IfOk, IfSome, IfNone, [], vec_capacity, ℕ, Some, MatchOption, nat_lt, ◌&&◌};
+ghost use Rattle.sbpl_serial.specs.sbpl_graph.declared.TheConstants.{FAR};
 ghost use Rattle.sbpl_cost.specs.PrimitiveCost.{most_cost};
 ghost use Rattle.sbpl_cost.specs.States.{IsOff};
-ghost use Rattle.sbpl_heur.specs.Boards.{IsBoard, cell_in, cell_before, cell_after, step_cost, cell_count};
+ghost use Rattle.sbpl_heur.specs.Boards.{IsBoard, cell_in, step_cost, cell_count};
+ghost use Rattle.sbpl_heur.specs.Boards.{start_of, end_of, cost_of};
+ghost use Rattle.sbpl_heur.specs.Spots.{IsSpot};
 
 use crate::hop::Hop;
 use sbpl_cost::{Env, Pose};
-use sbpl_serial::{Graph, NoMemory};
+use sbpl_serial::{FAR, NoMemory};
 use std::alloc::Global;
 use std::marker::Model;
 
-/// The reversed cell graph: arc `k` of a cell leads by hop `k` backwards, to the cell from which that hop leads to
-/// it. Its states are the cells, row by row, and one more, which no arc leads to or from. It keeps the costs of the
-/// cells that it was made for.
+/// The cells of a map, row by row, and the hops that lead from cell to cell. It keeps the costs of the cells that it was
+/// made for.
 #[derive(Drop)]
 pub(crate) struct Cells {
     env: Env,
     costs: Vec<u8>,
     hops: Vec<Hop>,
+}
+
+/// The column and the row of a cell.
+#[derive(Clone, Copy)]
+pub(crate) struct Spot {
+    x: u32,
+    y: u32,
 }
 
 impl Model for Cells {
@@ -46,7 +55,10 @@ fn on_axis(count: u32, x: i64) -> Option<u32>
     ensures inside { IfSome result (λ q. q < count) }
     ensures outside { IfNone result (IsOff count x) }
 {
-    if 0 <= x && x < i64::from(count) {
+    if x < 0 {
+        return None;
+    }
+    if x < i64::from(count) {
         Some(x as u32)
     } else {
         None
@@ -101,37 +113,21 @@ fn coordinate_after(x: u32, d: i32) -> i64
     i64::from(x) + i64::from(d)
 }
 
-/// The cell from which a hop leads to this one, or `None` where that is off the map.
-fn cell_before(env: &Env, cell: u32, hop: &Hop) -> Option<u32>
-    ensures value { result ≡ cell_before env.now cell hop.now }
-    ensures inside { IfSome result (λ p. p < env.now.width * env.now.height) }
+/// Whether a step between cells of these costs is free: both are below `obsthresh`, and the end is below the inscribed threshold.
+fn is_free(env: &Env, start: u8, end: u8) -> bool
+    ensures free { result ≡ (nat_lt start env.now.obsthresh && (nat_lt end env.now.obsthresh && nat_lt end env.now.inscribed)) }
 {
-    let x = coordinate_before(column_of(env, cell), hop.dx);
-    let y = coordinate_before(row_of(env, cell), hop.dy);
-    cell_in(env, x, y)
+    start < env.obsthresh && end < env.obsthresh && end < env.inscribed
 }
 
-/// The cell to which a hop leads from this one, or `None` where that is off the map.
-fn cell_after(env: &Env, cell: u32, hop: &Hop) -> Option<u32>
-    ensures value { result ≡ cell_after env.now cell hop.now }
-    ensures inside { IfSome result (λ q. q < env.now.width * env.now.height) }
-{
-    let x = coordinate_after(column_of(env, cell), hop.dx);
-    let y = coordinate_after(row_of(env, cell), hop.dy);
-    cell_in(env, x, y)
-}
-
-/// What a step by a hop costs between cells of these costs, or `None` where it is not free: both are below `obsthresh`,
-/// and the end is below the inscribed threshold.
-fn step_cost(env: &Env, hop: &Hop, start: u8, end: u8) -> Option<u32>
+/// What a step by a hop costs between cells of these costs, or `FAR` where it is not free. Both are computed, so that no branch
+/// depends on obstacles, which come in no order.
+fn step_weight(env: &Env, hop: &Hop, start: u8, end: u8) -> u64
     requires light { hop.now.cost ≤ most_cost }
-    ensures value { result ≡ step_cost env.now hop.now start end }
+    ensures weight { MatchOption (step_cost env.now hop.now start end) (result ≡ FAR) (λ cost. result ≡ cost) }
 {
-    if start < env.obsthresh && end < env.obsthresh && end < env.inscribed {
-        Some(hop.cost * (u32::from(start.max(end)) + 1))
-    } else {
-        None
-    }
+    let cost = u64::from(hop.cost * (u32::from(start.max(end)) + 1));
+    if is_free(env, start, end) { cost } else { FAR }
 }
 
 /// Whether two environments have maps of one size, with the same thresholds and the same number of headings.
@@ -238,6 +234,7 @@ impl Cells {
     /// The number of cells.
     pub(crate) fn count(&self) -> u32
         ensures value { result ≡ cell_count self.now }
+        ensures few { result ≤ 2 ^ 23 }
         ensures kept { IsBoard self.now }
     {
         self.costs.len() as u32
@@ -294,59 +291,73 @@ impl Cells {
     }
 }
 
-impl Graph for Cells {
-    ghost use Rattle.sbpl_heur.specs.Boards.{board_network};
-
-    ghost network = { board_network };
-
-    fn states(&self) -> u32 {
-        self.count() + 1
+impl Cells {
+    /// Where a cell lies.
+    pub(crate) fn spot_of(&self, cell: u32) -> Spot
+        ensures spot { IsSpot self.now.env cell result }
+    {
+        Spot {
+            x: column_of(&self.env, cell),
+            y: row_of(&self.env, cell),
+        }
     }
 
-    fn fan(&self, _s: u32) -> u32 {
+    /// The number of hops.
+    pub(crate) fn fan(&self) -> u32
+        ensures value { result ≡ length self.now.hops }
+    {
         self.hops.len() as u32
     }
 
-    fn head(&self, s: u32, k: u32) -> Option<u32> {
-        if s == self.count() {
-            return None;
-        }
-        cell_before(&self.env, s, &self.hops[k as usize])
+    /// The cell from which hop `k` leads to the cell at this spot, or `None` where that is off the map.
+    pub(crate) fn before(&self, cell: u32, spot: Spot, k: u32) -> Option<u32>
+        requires spot { IsSpot self.now.env cell spot }
+        requires hop { k < length self.now.hops }
+        ensures inside { IfSome result (λ start. start < cell_count self.now) }
+        ensures value { result ≡ start_of self.now cell k }
+    {
+        let hop = &self.hops[k as usize];
+        let x = coordinate_before(spot.x, hop.dx);
+        let y = coordinate_before(spot.y, hop.dy);
+        cell_in(&self.env, x, y)
     }
 
-    fn judge(&self, s: u32, k: u32) -> Option<u32> {
-        let start = self.head(s, k)?;
+    /// The cell to which hop `k` leads from the cell at this spot, or `None` where that is off the map.
+    pub(crate) fn after(&self, cell: u32, spot: Spot, k: u32) -> Option<u32>
+        requires spot { IsSpot self.now.env cell spot }
+        requires hop { k < length self.now.hops }
+        ensures inside { IfSome result (λ end_. end_ < cell_count self.now) }
+        ensures value { result ≡ end_of self.now cell k }
+    {
         let hop = &self.hops[k as usize];
-        step_cost(
+        let x = coordinate_after(spot.x, hop.dx);
+        let y = coordinate_after(spot.y, hop.dy);
+        cell_in(&self.env, x, y)
+    }
+
+    /// What hop `k` costs from a cell to another one, or `FAR` where that step is not free.
+    pub(crate) fn weight(&self, start: u32, end: u32, k: u32) -> u64
+        requires start { start < cell_count self.now }
+        requires end { end < cell_count self.now }
+        requires hop { k < length self.now.hops }
+        ensures weight { MatchOption (cost_of self.now start end k) (result ≡ FAR) (λ cost. result ≡ cost) }
+    {
+        step_weight(
             &self.env,
-            hop,
+            &self.hops[k as usize],
             self.costs[start as usize],
-            self.costs[s as usize],
+            self.costs[end as usize],
         )
     }
 
-    /// What the hop costs at the cost of the cell where it ends; the other cell can only make it dearer. It is known without a look
-    /// at that cell.
-    fn floor(&self, s: u32, k: u32) -> u32 {
-        if s == self.count() {
-            return 1;
+    /// The least and the greatest cost of a hop.
+    pub(crate) fn hop_costs(&self) -> (u32, u32) {
+        let mut least = u32::MAX;
+        let mut most = 0;
+        for hop in self.hops.as_slice() {
+            least = least.min(hop.cost);
+            most = most.max(hop.cost);
         }
-        self.hops[k as usize].cost * (u32::from(self.costs[s as usize]) + 1)
-    }
-
-    fn tail_fan(&self, _t: u32) -> u32 {
-        self.hops.len() as u32
-    }
-
-    fn tail(&self, t: u32, j: u32) -> Option<(u32, u32)> {
-        if t == self.count() {
-            return None;
-        }
-        let s = cell_after(&self.env, t, &self.hops[j as usize])?;
-        Some((s, j))
-    }
-
-    fn gap(&self, _a: u32, _b: u32) -> u64 {
-        0
+        (least, most)
     }
 }

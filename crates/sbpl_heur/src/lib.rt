@@ -6,6 +6,7 @@ mod cap;
 mod cells;
 mod hop;
 mod hops;
+mod queue;
 mod walks;
 
 pub use best::Best;

@@ -36,7 +36,7 @@ invariant_of-best c =
     c.requires.goal c.cells_of.ensures.cells c.headings_of-headings.ensures.value
     (c.in_ok-cells.ensures.items_if_clones_equal (λ y h. h)) (c.in_ok-turns.ensures.items_if_clones_equal (λ y h. h))
     (ap cell_count board ∙ size ∙ sym area ∙ sym c.cells_of.ensures.cells)
-    c.in_ok-walks.ensures.start (ap (λ z. z.room) board ∙ sym c.in_ok-hops.ensures.exact)
+    c.in_ok-walks.ensures.goal (ap (λ z. z.room) board ∙ sym c.in_ok-hops.ensures.exact) c.in_ok-walks.ensures.least
 
 pub rebuild-requires : goal.rebuild-requires
 rebuild-requires c = record {

@@ -1,5 +1,5 @@
 use Rattle.std.proofs.Common.{◌≡◌, ◌*◌, ◌/◌, length, arith, ap, sym, ◌∙◌, refl, vec_capacity}
-use Rattle.sbpl_serial.specs.sbpl_labels.Marks.{g_of}
+use Rattle.sbpl_heur.specs.Followed.{distance}
 use Rattle.sbpl_heur.specs.Boards.{cell_count, map_of}
 use Rattle.sbpl_heur.proofs.Rebuilt.{IsRebuilt, board_in_world, least_alike, same_map, cells_of_map}
 use Rattle.sbpl_heur.proofs.Rebuilt.{goal_inside, rebuilt_best, rebuilt_guide}
@@ -49,11 +49,11 @@ rebuilt c =
       hops_are = c.list_hops.ensures.hops;
       entries = entries;
       least =
-          least_alike w c.follow.new.self.board c.list_hops.new.hops.items c.follow.new.self.labels.start _
-          (g_of c.follow.new.self.labels) _ (ap (λ z. z.env) board ∙ c.env-env.ensures.env)
+          least_alike w c.follow.new.self.board c.list_hops.new.hops.items c.follow.new.self.goal _
+          (distance c.follow.new.self) _ (ap (λ z. z.env) board ∙ c.env-env.ensures.env)
           (ap map_of board ∙ same_map w c.env-env.result.now c.costs.result.now world c.env-env.ensures.env costs)
           (ap (λ z. z.hops) board ∙ c.as_slice.ensures.value)
-          (c.follow.ensures.start ∙ c.self.invariant.start ∙ ap (λ n. c.self.inside.goal / n) fits.turns) (λ a within.
+          (c.follow.ensures.goal ∙ c.self.invariant.goal ∙ ap (λ n. c.self.inside.goal / n) fits.turns) (λ a within.
           c.weigh.ensures.weights a (omega (arith, within, entries, c.weigh.ensures.size))) c.follow.ensures.least;
       capped = c.cap.ensures.capped;
       turned = c.turn.ensures.turns;
@@ -71,10 +71,11 @@ invariant_of-self c =
       cells =
           ap cell_count c.follow.ensures.board ∙ ap length (c.costs.ensures.value ∙ ap (λ m. m.costs) c.map.ensures.map)
           ∙ is.world.map.cells ∙ sym is.entries ∙ sym is.capped.size;
-      start =
-          c.follow.ensures.start ∙ c.self.invariant.start
+      goal =
+          c.follow.ensures.goal ∙ c.self.invariant.goal
           ∙ ap (λ n. c.self.inside.goal / n) (fits.turns ∙ sym is.count);
       hops = ap (λ z. z.room) c.follow.ensures.board ∙ c.self.invariant.hops ∙ sym c.list_hops.ensures.room;
+      least = c.follow.ensures.least;
     }
 
 pub returns-clause-best : goal.returns-clause-best

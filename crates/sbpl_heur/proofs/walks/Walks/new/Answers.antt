@@ -1,23 +1,27 @@
-use Rattle.std.proofs.Common.{◌≡◌, length, arith, ap, sym, ◌∙◌}
-use Rattle.sbpl_heur.specs.Boards.{cell_count, board_network}
+use Rattle.std.proofs.Common.{◌<◌, length, replicate, set, arith, ap, ◌∙◌, false}
+use Rattle.std.proofs.lemmas.List.{length-replicate}
+use Rattle.sbpl_serial.specs.sbpl_graph.declared.TheConstants.{FAR}
+use Rattle.sbpl_heur.specs.Boards.{Board, cell_count}
+use Rattle.sbpl_heur.proofs.Settling.{settled}
+use Rattle.sbpl_heur.proofs.Sinking.{fresh, bare, none_marked}
 use Rattle.sbpl_heur.proofs.walks.Walks.new.Goals as goal
 
 pub invariant_of-result : goal.invariant_of-result
 invariant_of-result c =
-    let b = c.in_ok-cells.cells in
-    let made = c.in_ok-cells.ensures.board in
-    let fresh = c.new-2.ensures.fresh in
-    let count : cell_count b ≡ length c.args.costs.now = ap (λ z. length z.costs) made in
-    let first = c.in_ok-search.ensures.opened.start in
-    let ready =
-    c.in_ok-search.ensures.ready (board_network b) c.new-2.result.run (omega (arith, c.count-count.ensures.value)) in
-    record {
-      board = c.count-count.ensures.kept;
-      start = omega (arith, first, count, c.requires.goal);
-      goal = c.in_ok-search.ensures.goal ∙ c.count-count.ensures.value;
-      usable = record { states = ready.states; exact = ready.exact; fits = ready.fits };
-      one_plan =
-          record { all = ap (λ z. z.plan) fresh ∙ sym (ap (λ z. z.run) fresh); per_plan = ap (λ z. z.per_plan) fresh };
-      hops_fit = omega (arith, ap (λ z. length z.hops) made);
-      touched_fit = omega (arith, ap (λ z. z.room) made, c.in_ok-touched.ensures.exact);
-    }
+    let count = c.count-count.ensures.value in
+    fresh _ (ap (λ l. set l c.args.goal 0) (c.in_ok-distances.ensures.items_if_clones_equal (λ y h. h)
+    ∙ ap (λ n. replicate n FAR) count)) c.count-count.ensures.kept
+    (omega (arith, c.requires.goal, ap (λ (b : Board). cell_count b) c.in_ok-cells.ensures.board))
+    (ap length (c.in_ok-waits.ensures.items_if_clones_equal (λ y h. h)) ∙ length-replicate c.count-count.result false ∙ count) (ap length (c.in_ok-doubts.ensures.items_if_clones_equal (λ y h. h)) ∙ length-replicate c.count-count.result false ∙ count)
+
+pub returns-clause-least : goal.returns-clause-least
+returns-clause-least c =
+    let count = c.count-count.ensures.value in
+    let distances = ap (λ l. set l c.args.goal 0) (c.in_ok-distances.ensures.items_if_clones_equal (λ y h. h)
+    ∙ ap (λ n. replicate n FAR) count) in
+    let goal_inside : c.args.goal < cell_count c.in_ok-cells.cells =
+    omega (arith, c.requires.goal, ap (λ (b : Board). cell_count b) c.in_ok-cells.ensures.board) in
+    settled _ (fresh _ distances c.count-count.ensures.kept goal_inside
+    (ap length (c.in_ok-waits.ensures.items_if_clones_equal (λ y h. h)) ∙ length-replicate c.count-count.result false ∙ count) (ap length (c.in_ok-doubts.ensures.items_if_clones_equal (λ y h. h)) ∙ length-replicate c.count-count.result false ∙ count))
+    (bare _ distances c.count-count.ensures.kept goal_inside (ap (λ (b : Board). b.hops) c.in_ok-cells.ensures.board))
+    (none_marked _ _ (c.in_ok-waits.ensures.items_if_clones_equal (λ y h. h)))

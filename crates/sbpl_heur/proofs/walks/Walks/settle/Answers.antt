@@ -1,38 +1,48 @@
-use Rattle.std.proofs.Common.{◌<◌, arith, refl, ◌∙◌, subst}
-use Rattle.sbpl_serial.specs.sbpl_graph.Certificate.{ShowBound}
-use Rattle.sbpl_serial.specs.sbpl_labels.Marks.{g_of, v_of}
-use Rattle.sbpl_serial.specs.sbpl_search.Query.{query}
-use Rattle.sbpl_serial.specs.Run.{none_closed, closed_after, IsAtRest}
-use Rattle.sbpl_heur.specs.Boards.{cell_count, board_network}
-use Rattle.sbpl_heur.proofs.Settling.{settled, are_least}
+use Rattle.std.proofs.Common.{arith, ap, sym, ◌∙◌, subst, ◌<◌}
+use Rattle.sbpl_heur.specs.Followed.{Walking, IsSinking, IsWalking, HasLeast, left}
+use Rattle.sbpl_heur.proofs.Settling.{settled}
+use Rattle.sbpl_heur.proofs.Sinking.{taken, taken_inside, less_to_do}
 use Rattle.sbpl_heur.proofs.walks.Walks.settle.Goals as goal
 
-pub pass-end-requires-clause-ready : goal.pass-end-requires-clause-ready
-pass-end-requires-clause-ready c = c.make_room.ensures.usable _ c.self.invariant.usable
+pub loop-cell-init : goal.loop-cell-init
+loop-cell-init c = record {
+  sinking = subst IsSinking (sym c.list_waiting.ensures.same) c.requires.sinking;
+  board = ap (λ (z : Walking). z.board) c.list_waiting.ensures.same;
+  goal = ap (λ (z : Walking). z.goal) c.list_waiting.ensures.same;
+}
 
-pub returns-clause-least : goal.returns-clause-least
-returns-clause-least c =
-    let b = c.self.inside.cells in
-    let m = c.pass-end.new.self.labels in
-    let before = c.make_room.ensures.usable _ c.self.invariant.usable in
-    let start : m.start < cell_count b =
-    omega (arith, c.pass-end.ensures.passed.start, c.make_room.ensures.start, c.self.invariant.start) in
-    let rests =
-    c.pass-end.ensures.passed.enough (omega (
-      arith,
-      before.states,
-      c.make_room.ensures.room,
-      c.make_room.ensures.one_plan.all,
-      c.make_room.ensures.one_plan.per_plan,
-      c.states-states.ensures.value,
-    )) (omega (arith, before.states, c.make_room.ensures.room, c.states-states.ensures.value)) in
-    let goal_is = c.make_room.ensures.goal ∙ c.self.invariant.goal in
-    let closed = closed_after none_closed c.pass-end.new.self.trace in
-    let rest =
-    subst (λ x. IsAtRest (query (board_network b) (λ _. 0) 1000 x) closed m) goal_is
-    (c.pass-end.ensures.passed.rest.0 rests) in
-    let tight =
-    subst (λ x. ShowBound (board_network b) m.start x (g_of m) (v_of m) (λ _. 0) (g_of m x)) goal_is
-    (c.pass-end.ensures.passed.tight rests refl) in
-    are_least b c.self.invariant.board m _ c.pass-end.ensures.passed.usable start (settled b c.self.invariant.board m _
-    c.pass-end.ensures.passed.usable closed c.labels-labels.ensures.labels start rest tight)
+pub expand-requires : goal.expand-requires
+expand-requires c =
+    let took = c.in-Some.ensures in
+    record {
+      cell = taken_inside c.loop-cell.self c.take_waiting.new.self c.in-Some.cell took.rest took.takes took.sizes;
+      expanded =
+          taken c.loop-cell.self c.take_waiting.new.self c.in-Some.cell took.rest took.takes
+          c.loop-cell.invariant.sinking;
+    }
+
+pub loop-cell-preserved : goal.loop-cell-preserved
+loop-cell-preserved c =
+    let rest = c.in-Some.ensures.rest in
+    record {
+      sinking = c.expand.ensures.sinking;
+      board = c.expand.ensures.board ∙ ap (λ (z : Walking). z.board) rest ∙ c.loop-cell.invariant.board;
+      goal = c.expand.ensures.goal ∙ ap (λ (z : Walking). z.goal) rest ∙ c.loop-cell.invariant.goal;
+    }
+
+pub loop-cell-smaller : goal.loop-cell-smaller
+loop-cell-smaller c =
+    let took = c.in-Some.ensures in
+    let less = less_to_do c.loop-cell.self c.take_waiting.new.self c.in-Some.cell took.rest took.takes in
+    let even : left c.expand.new.self < left c.loop-cell.self = omega (arith, less, c.expand.ensures.left) in
+    even
+
+pub returns : goal.returns
+returns c =
+    let same = c.in_default.ensures.kept in
+    record {
+      board = ap (λ (z : Walking). z.board) same ∙ c.loop-cell.invariant.board;
+      goal = ap (λ (z : Walking). z.goal) same ∙ c.loop-cell.invariant.goal;
+      least = subst HasLeast (sym same) (settled c.loop-cell.self (subst IsWalking same c.in_default.ensures.sizes)
+          c.loop-cell.invariant.sinking c.in_default.ensures.none);
+    }

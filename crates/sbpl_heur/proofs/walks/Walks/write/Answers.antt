@@ -1,30 +1,30 @@
-use Rattle.std.proofs.Common.{◌<◌, length, length-set, slice_get, arith, ap, sym, ◌∙◌, subst}
-use Rattle.std.specs.List.{All, Contains}
-use Rattle.sbpl_serial.specs.sbpl_graph.Fit.{FitCount}
-use Rattle.sbpl_serial.specs.sbpl_labels.Marks.{states_of, back_of, g_of, v_of}
-use Rattle.sbpl_heur.proofs.Hopping.{beside_set}
-use Rattle.sbpl_heur.proofs.Touching.{same_arcs, fits_more}
+use Rattle.std.proofs.Common.{◌≡◌, length, arith, ap, sym, ◌∙◌, subst, set}
+use Rattle.sbpl_heur.specs.Boards.{IsBoard, cell_count}
+use Rattle.sbpl_heur.specs.Followed.{Walking, distance, AreRoused, IsDoubtful}
+use Rattle.sbpl_heur.proofs.Doubting.{still_doubtful, written}
 use Rattle.sbpl_heur.proofs.walks.Walks.write.Goals as goal
 
-pub change-requires-clause-changeable : goal.change-requires-clause-changeable
-change-requires-clause-changeable c =
-    let usable = c.self.invariant.usable in
-    let b = c.self.inside.cells in
-    let m = c.self.inside.search.labels in
-    let set = c.set.ensures.set in
+pub set-requires : goal.set-requires
+set-requires c = record {
+  cell = omega (arith, c.requires.cell, ap (λ (z : Walking). cell_count z.board) c.rouse_around.ensures.marks.rest);
+}
+
+pub returns : goal.returns
+returns c =
+    let old = c.args.self.now in
+    let s = c.rouse_around.new.self in
+    let rest = c.rouse_around.ensures.marks.rest in
+    let made = c.set.ensures.set in
+    let was : distance old c.args.cell ≡ distance s c.args.cell = ap (λ (z : Walking). distance z c.args.cell) (sym rest) in
+    let hops : length old.board.hops ≡ length s.board.hops = ap (λ (z : Walking). length z.board.hops) (sym rest) in
+    let roused = subst (λ n. AreRoused s c.args.cell n (length s.board.hops)) was
+    (subst (λ n. AreRoused s c.args.cell (distance old c.args.cell) n) hops c.rouse_around.ensures.roused) in
+    let board = ap (λ (z : Walking). z.board) made in
     record {
-      inside =
-          subst (λ l. All (λ t. t < states_of m) l) (sym c.as_slice.ensures.value)
-          (λ k d here. omega (arith, usable.states, c.touch.ensures.touched.inside k d here));
-      fits =
-          subst (λ n. FitCount n (g_of m) (v_of m) 1073741824) (sym usable.states)
-          (fits_more _ _ _ _ 1073741824 (omega (arith, c.used-used.ensures.counts.within_run)) usable.fits);
-      untouched = λ t state beside absent.
-          c.exact_where_same.ensures.every_state _ _ m.start (g_of m) (v_of m) (back_of m) usable.exact t
-          (omega (arith, state, usable.states)) beside
-          (same_arcs b c.set.new.self c.self.invariant.board c.set.ensures.kept c.args.cell (ap (λ z. z.env) set)
-          (ap (λ z. z.hops) set) (ap (λ z. length z.costs) set ∙ length-set b.costs c.args.cell c.args.cost)
-          (λ i apart. ap (λ z. slice_get z.costs i) set ∙ beside_set b.costs c.args.cell i c.args.cost apart)
-          c.touch.new.touched.items c.touch.ensures.touched t
-          (λ among. absent (subst (λ l. Contains l t) (sym c.as_slice.ensures.value) among)));
+      board = board ∙ ap (λ (z : Walking). record z.board { costs = set z.board.costs c.args.cell c.args.cost }) rest;
+      goal = ap (λ (z : Walking). z.goal) made ∙ ap (λ (z : Walking). z.goal) rest;
+      doubtful = subst IsDoubtful (sym made) (written s c.set.ensures.sizes c.args.cell c.args.cost
+          (omega (arith, c.requires.cell, ap (λ (z : Walking). cell_count z.board) rest))
+          (subst IsBoard board c.set.ensures.kept.board) roused
+          (still_doubtful old s c.rouse_around.ensures.marks c.requires.doubtful));
     }
