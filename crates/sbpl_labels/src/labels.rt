@@ -23,8 +23,8 @@ use crate::row::Row;
 use crate::rows::Rows;
 use crate::walk::Walk;
 use crate::ways::least_way;
-use sbpl_fixed::NoMemory;
 use sbpl_graph::{FAR, Graph, Guide};
+use sbpl_pages::NoMemory;
 use std::alloc::Global;
 use std::marker::Model;
 
@@ -66,7 +66,7 @@ impl Labels {
         ensures not_under { IfOk result (λ m. NoneUnder states (g_of m) (v_of m)) }
         ensures fits { IfOk result (λ m. (count : ℕ) → FitCount states (g_of m) (v_of m) count) }
     {
-        let mut rows = Rows::new(alloc, states as usize, FAR_ROW)?;
+        let mut rows = Rows::new(alloc, states, FAR_ROW)?;
         rows.set_way(start, 0, None);
         Ok(Labels { start, rows })
     }
@@ -109,7 +109,7 @@ impl Labels {
         ensures value { result ≡ states_of self.now }
         ensures labels { AreLabels self.now }
     {
-        self.rows.len() as u32
+        self.rows.len()
     }
 
     /// What the best known way to `s` costs.

@@ -16,6 +16,6 @@ pub use budget::Budget;
 pub use labels::Labels;
 pub use meter::Meter;
 pub use pass_end::PassEnd;
-pub use sbpl_fixed::{NoMemory, ceil_root};
 pub use sbpl_graph::{FAR, Graph, Guide, Zero, bound_holds, none_holds};
+pub use sbpl_pages::{NoMemory, ceil_root};
 pub use walk::Walk;

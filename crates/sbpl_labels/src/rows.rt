@@ -5,17 +5,17 @@ ghost use Rattle.sbpl_labels.specs.Marks.{no_row};
 ghost use Rattle.sbpl_labels.specs.Rows.{SetsRow};
 
 use crate::row::Row;
-use sbpl_fixed::NoMemory;
+use sbpl_pages::{NoMemory, Paged};
 use std::alloc::Global;
 use std::marker::Model;
 
 /// The labels of states, each of the three kinds in a column of its own. So a state takes 28 bytes and not 32, and a search,
-/// which mostly reads g of the heads of arcs, finds more of them in a cache line.
+/// which mostly reads g of the heads of arcs, finds more of them in a cache line. A column takes memory where it was written.
 #[derive(Drop)]
 pub(crate) struct Rows {
-    g: Vec<u64>,
-    v: Vec<u64>,
-    back: Vec<Option<(u32, u32)>>,
+    g: Paged<u64>,
+    v: Paged<u64>,
+    back: Paged<Option<(u32, u32)>>,
 }
 
 impl Model for Rows {
@@ -25,25 +25,25 @@ impl Model for Rows {
 
     ghost Value = { List Row };
 
-    ghost view = { λ a. rows_of a.g.items a.v.items a.back.items };
+    ghost view = { λ a. rows_of a.g a.v a.back };
 
-    ghost invariant = { λ a. (length a.v.items ≡ length a.g.items) × (length a.back.items ≡ length a.g.items) };
+    ghost invariant = { λ a. (length a.v ≡ length a.g) × (length a.back ≡ length a.g) };
 }
 
 impl Rows {
     /// This many rows, each equal to this one.
-    pub(crate) fn new(alloc: Global, count: usize, row: Row) -> Result<Rows, NoMemory>
+    pub(crate) fn new(alloc: Global, count: u32, row: Row) -> Result<Rows, NoMemory>
         ensures count { IfOk result (λ rows. length rows ≡ count) }
         ensures rows { IfOk result (λ rows. (s : ℕ) → s < count → slice_index_or rows s no_row ≡ row) }
     {
-        let g = vec![in alloc; row.g; count]?;
-        let v = vec![in alloc; row.v; count]?;
-        let back = vec![in alloc; row.back; count]?;
+        let g = Paged::new(alloc, count, row.g)?;
+        let v = Paged::new(alloc, count, row.v)?;
+        let back = Paged::new(alloc, count, row.back)?;
         Ok(Rows { g, v, back })
     }
 
     /// How many rows there are.
-    pub(crate) fn len(&self) -> usize
+    pub(crate) fn len(&self) -> u32
         ensures value { result ≡ length self.now }
     {
         self.g.len()
@@ -54,7 +54,7 @@ impl Rows {
         requires state { s < length self.now }
         ensures value { result ≡ (slice_index_or self.now s no_row).g }
     {
-        self.g[s as usize]
+        self.g.get(s)
     }
 
     /// v of a state.
@@ -62,7 +62,7 @@ impl Rows {
         requires state { s < length self.now }
         ensures value { result ≡ (slice_index_or self.now s no_row).v }
     {
-        self.v[s as usize]
+        self.v.get(s)
     }
 
     /// The back arc of a state, where it has one.
@@ -70,7 +70,7 @@ impl Rows {
         requires state { s < length self.now }
         ensures value { result ≡ (slice_index_or self.now s no_row).back }
     {
-        self.back[s as usize]
+        self.back.get(s)
     }
 
     /// Gives a state this g and this back arc.
@@ -78,8 +78,8 @@ impl Rows {
         requires state { s < length self.old }
         ensures set { SetsRow self.old self.new s (record { g = g; v = (slice_index_or self.old s no_row).v; back = back }) }
     {
-        self.g[s as usize] = g;
-        self.back[s as usize] = back;
+        self.g.set(s, g);
+        self.back.set(s, back);
     }
 
     /// Gives a state this v.
@@ -92,7 +92,7 @@ impl Rows {
               (slice_index_or self.old s no_row).back;
         }) }
     {
-        self.v[s as usize] = v;
+        self.v.set(s, v);
     }
 
     /// Makes each row this one.

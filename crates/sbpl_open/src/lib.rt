@@ -10,3 +10,4 @@ mod sift;
 pub use entry::Entry;
 pub use key::Key;
 pub use open::Open;
+pub use sbpl_pages::Paged;

@@ -9,7 +9,7 @@ ghost use Rattle.sbpl_open.specs.Entries.{entry_at, key_of, state_at};
 use crate::ends::{empty, hole_for, remove};
 use crate::sift::sift;
 use crate::{Entry, Key};
-use sbpl_fixed::NoMemory;
+use sbpl_pages::{NoMemory, Paged};
 use std::alloc::Global;
 use std::marker::Model;
 
@@ -19,7 +19,7 @@ use std::marker::Model;
 #[derive(Drop)]
 pub struct Open {
     heap: Vec<Entry>,
-    slots: Vec<u32>,
+    slots: Paged<u32>,
 }
 
 impl Model for Open {
@@ -29,9 +29,9 @@ impl Model for Open {
 
     ghost Value = { OpenList };
 
-    ghost view = { λ a. record { keys = keys_of a.heap.items a.slots.items } };
+    ghost view = { λ a. record { keys = keys_of a.heap.items a.slots } };
 
-    ghost invariant = { λ a. AreParts a.heap.items a.slots.items (vec_capacity a.heap) };
+    ghost invariant = { λ a. AreParts a.heap.items a.slots (vec_capacity a.heap) };
 }
 
 impl Open {
@@ -42,7 +42,7 @@ impl Open {
         ensures empty { IfOk result (λ f. IsEmpty f) }
     {
         let heap = Vec::with_capacity(alloc, states as usize)?;
-        let slots = vec![in alloc; 0; states as usize]?;
+        let slots = Paged::new(alloc, states, 0)?;
         Ok(Open { heap, slots })
     }
 
@@ -74,7 +74,7 @@ impl Open {
         ensures changed { ChangesKey self.old self.new s None }
         ensures unchanged { key_at self.old s ≡ None → self.new ≡ self.old }
     {
-        if self.slots[s as usize] > 0 {
+        if self.slots.get(s) > 0 {
             remove(&mut self.heap, &mut self.slots, s);
         }
     }
@@ -84,7 +84,7 @@ impl Open {
         requires state { s < states_of self.now }
         ensures there { IsTrue result ↔ IsSome (key_at self.now s) }
     {
-        self.slots[s as usize] > 0
+        self.slots.get(s) > 0
     }
 
     /// The open states with their keys, each once, in no order.

@@ -5,15 +5,17 @@ ghost use Rattle.std.specs.Prelude.{◌≡◌, ℕ, ◌+◌, ◌^◌, ◌<◌, l
 ghost use Rattle.sbpl_open.specs.Heap.{AreAgreed, HasHole, IsNotBefore, IsChild, IsHeap, SameKeys, filled, placed_at, rank_at};
 
 use crate::Entry;
+use sbpl_pages::Paged;
 
 /// Puts the entry into the heap, which is in order except at the hole.
-pub(crate) fn sift(heap: &mut [Entry], slots: &mut [u32], hole: usize, entry: Entry)
+pub(crate) fn sift(heap: &mut [Entry], slots: &mut Paged<u32>, hole: usize, entry: Entry)
     requires few { length slots.old < 2 ^ 32 }
     requires hole { HasHole heap.old slots.old hole entry }
     ensures agreed { AreAgreed heap.new slots.new }
     ensures keys { SameKeys (filled heap.old hole entry) (placed_at slots.old hole entry) heap.new
         slots.new }
     ensures ordered { IsHeap (length heap.old) (rank_at heap.new) }
+    ensures states { length slots.new ≡ length slots.old }
 {
     let hole = sift_up(heap, slots, hole, entry);
     let hole = sift_down(heap, slots, hole, entry);
@@ -21,13 +23,14 @@ pub(crate) fn sift(heap: &mut [Entry], slots: &mut [u32], hole: usize, entry: En
 }
 
 /// Moves the hole up, as far as the entry comes before what is above it, and answers its slot.
-fn sift_up(heap: &mut [Entry], slots: &mut [u32], mut hole: usize, entry: Entry) -> usize
+fn sift_up(heap: &mut [Entry], slots: &mut Paged<u32>, mut hole: usize, entry: Entry) -> usize
     requires few { length slots.old < 2 ^ 32 }
     requires hole { HasHole heap.old slots.old hole entry }
     ensures hole { HasHole heap.new slots.new result entry }
     ensures keys { SameKeys (filled heap.old hole entry) (placed_at slots.old hole entry)
         (filled heap.new result entry) (placed_at slots.new result entry) }
     ensures not_before { IsNotBefore (rank_at (filled heap.new result entry)) result }
+    ensures states { length slots.new ≡ length slots.old }
 {
     while hole > 0 {
         let above = (hole - 1) / 4;
@@ -42,7 +45,7 @@ fn sift_up(heap: &mut [Entry], slots: &mut [u32], mut hole: usize, entry: Entry)
 }
 
 /// Moves the hole down, as far as what is below comes before the entry, and answers its slot.
-fn sift_down(heap: &mut [Entry], slots: &mut [u32], mut hole: usize, entry: Entry) -> usize
+fn sift_down(heap: &mut [Entry], slots: &mut Paged<u32>, mut hole: usize, entry: Entry) -> usize
     requires few { length slots.old < 2 ^ 32 }
     requires hole { HasHole heap.old slots.old hole entry }
     requires not_before { IsNotBefore (rank_at (filled heap.old hole entry)) hole }
@@ -50,6 +53,7 @@ fn sift_down(heap: &mut [Entry], slots: &mut [u32], mut hole: usize, entry: Entr
     ensures keys { SameKeys (filled heap.old hole entry) (placed_at slots.old hole entry)
         (filled heap.new result entry) (placed_at slots.new result entry) }
     ensures ordered { IsHeap (length heap.old) (rank_at (filled heap.new result entry)) }
+    ensures states { length slots.new ≡ length slots.old }
 {
     while let Some(below) = first_child(heap, hole) {
         let other = heap[below];
@@ -81,7 +85,7 @@ fn first_child(heap: &[Entry], slot: usize) -> Option<usize>
 }
 
 /// Writes an entry to a slot of the heap.
-fn fill(heap: &mut [Entry], slots: &mut [u32], slot: usize, entry: Entry)
+fn fill(heap: &mut [Entry], slots: &mut Paged<u32>, slot: usize, entry: Entry)
     requires slot { slot < length heap.old }
     requires few { slot + 1 < 2 ^ 32 }
     requires state { entry.state < length slots.old }
@@ -89,5 +93,5 @@ fn fill(heap: &mut [Entry], slots: &mut [u32], slot: usize, entry: Entry)
     ensures slots { slots.new ≡ slice_set slots.old entry.state (slot + 1) }
 {
     heap[slot] = entry;
-    slots[entry.state as usize] = slot as u32 + 1;
+    slots.set(entry.state, slot as u32 + 1);
 }

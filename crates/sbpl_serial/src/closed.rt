@@ -3,6 +3,7 @@
 ghost use Rattle.std.specs.Prelude.{◌≡◌, ℕ, ◌<◌, length, true, false, IfOk, slice_index, slice_index_or, slice_set};
 ghost use Rattle.sbpl_serial.specs.Marked.{AreMarks, closed_at};
 
+use sbpl_open::Paged;
 use sbpl_search::NoMemory;
 use std::alloc::Global;
 use std::marker::Model;
@@ -11,7 +12,7 @@ use std::marker::Model;
 /// it, so that a new pass begins without a look at each state.
 #[derive(Drop)]
 pub struct Closed {
-    marks: Vec<u32>,
+    marks: Paged<u32>,
     pass: u32,
 }
 
@@ -21,9 +22,9 @@ impl Model for Closed {
 
     ghost Value = { List Bool };
 
-    ghost view = { λ a. map (λ mark. nat_eq mark a.pass) a.marks.items };
+    ghost view = { λ a. map (λ mark. nat_eq mark a.pass) a.marks };
 
-    ghost invariant = { λ a. AreMarks a.marks.items a.pass };
+    ghost invariant = { λ a. AreMarks a.marks a.pass };
 }
 
 impl Closed {
@@ -32,11 +33,11 @@ impl Closed {
         ensures states { IfOk result (λ c. length c ≡ states) }
         ensures none { IfOk result (λ c. (s : ℕ) → closed_at c s ≡ false) }
     {
-        let marks = vec![in alloc; 0; states as usize]?;
+        let marks = Paged::new(alloc, states, 0)?;
         Ok(Closed { marks, pass: 1 })
     }
 
-    /// Opens all states again. Except in one call of 2^32 it looks at none of them.
+    /// Opens all states again. It looks at none of them.
     pub fn clear(&mut self)
         ensures states { length self.new ≡ length self.old }
         ensures none { (s : ℕ) → closed_at self.new s ≡ false }
@@ -49,7 +50,7 @@ impl Closed {
         requires state { s < length self.now }
         ensures value { result ≡ closed_at self.now s }
     {
-        self.marks[s as usize] == self.pass
+        self.marks.get(s) == self.pass
     }
 
     /// Closes `s`.
@@ -57,28 +58,20 @@ impl Closed {
         requires state { s < length self.old }
         ensures closed { self.new ≡ slice_set self.old s true }
     {
-        self.marks[s as usize] = self.pass;
+        self.marks.set(s, self.pass);
     }
 }
 
 /// A number that is above every mark. Where there is none the marks begin again.
-fn next_pass(marks: &mut [u32], pass: u32) -> u32
+fn next_pass(marks: &mut Paged<u32>, pass: u32) -> u32
     requires marks { AreMarks marks.old pass }
+    ensures states { length marks.new ≡ length marks.old }
     ensures above { (s : ℕ) → s < length marks.new → slice_index marks.new s < result }
 {
     if pass == u32::MAX {
-        wipe(marks);
+        marks.fill(0);
         1
     } else {
         pass + 1
-    }
-}
-
-/// Writes 0 into each mark.
-fn wipe(marks: &mut [u32])
-    ensures wiped { (s : ℕ) → s < length marks.old → slice_index marks.new s ≡ 0 }
-{
-    for mark in marks.iter_mut() {
-        *mark = 0;
     }
 }

@@ -55,3 +55,24 @@ invariant_of-result g c =
           c.open.ensures.empty (c.open.ensures.keeps ∙ c.requires.keeps) (omega (arith, inside, to)) inside queued
           unlisted c.space.invariant.2 c.space.invariant.3,
     )
+
+pub begin-requires-clause-known : goal.begin-requires-clause-known
+begin-requires-clause-known g c = λ s inside.
+    g.met.H.Guide.covered c.args.guide.now (g.G.Graph.network c.args.graph.now) c.args.goal s c.requires.guide
+    (omega (arith, inside, c.requires.ready.states))
+
+pub returns-clause-first : goal.returns-clause-first
+returns-clause-first g c =
+    let network = ap (λ (q : Query). q.network) c.requires.query in
+    let fan = rw network at c.fan.ensures.value in
+    let past : g.N.Pass.query.network.fan c.args.goal ≤ c.fan.result = omega (arith, fan) in
+    let begun = rw (← c.space.view_is) at c.in-Ok.ensures.queued in
+    record {
+      labels = c.requires.labels;
+      counts = c.requires.budget;
+      marks = omega (arith, c.space.invariant.0, begun.states, ap states_of c.requires.labels);
+      none_opened = rw (← c.space.view_is) at c.in-Ok.ensures.none_opened;
+      none_ready = none_from g.N.Pass.query.network c.args.goal c.fan.result past;
+      none_out = c.new.ensures.items;
+      next = refl;
+    }

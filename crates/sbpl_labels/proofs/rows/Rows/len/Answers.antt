@@ -3,4 +3,4 @@ use Rattle.sbpl_labels.proofs.Columns.{rows_size}
 use Rattle.sbpl_labels.proofs.rows.Rows.len.Goals as goal
 
 pub returns : goal.returns
-returns c = record { value = omega (arith, c.len.ensures, rows_size _ _ _ c.self.view_is c.self.invariant) }
+returns c = record { value = omega (arith, c.len.ensures.value, rows_size _ _ _ c.self.view_is c.self.invariant) }

@@ -8,7 +8,7 @@ use Rattle.sbpl_open.proofs.open.Open.least.Goals as goal
 pub returns-in_err-entry : goal.returns-in_err-entry
 returns-in_err-entry c =
     let h = c.self.inside.heap.items in
-    let p = c.self.inside.slots.items in
+    let p = c.self.inside.slots in
     let none = length_none h (rw c.deref.ensures.value at c.in_err-entry.ensures.value) in
     rw c.from_residual.ensures
     (record { least = empty_view h p c.self.view_is (absent_all c.self.invariant.agreed none) })
@@ -16,7 +16,7 @@ returns-in_err-entry c =
 pub returns : goal.returns
 returns c =
     let h = c.self.inside.heap.items in
-    let p = c.self.inside.slots.items in
+    let p = c.self.inside.slots in
     let found = sym (rw c.deref.ensures.value at c.in_ok-entry.ensures.value) in
     let some : 0 < length h = slice_get_within h 0 c.in_ok-entry.field-0.now found in
     let at : entry_at h 0 ≡ c.in_ok-entry.field-0.now =
