@@ -1,8 +1,8 @@
 -- The arcs of a board.
-use Rattle.std.proofs.Common.{◌≡◌, ℕ, ◌+◌, ◌*◌, ◌<◌, ◌≤◌, ◌^◌, ◌&&◌, max, slice_get}
+use Rattle.std.proofs.Common.{◌≡◌, ℕ, ◌+◌, ◌*◌, ◌%◌, ◌<◌, ◌≤◌, ◌^◌, ◌-ℤ◌, ◌&&◌, pos, max, slice_get}
 use Rattle.std.proofs.Common.{slice_index, Option, Some, None, option_and_then, nat_lt}
 use Rattle.std.proofs.Common.{refl, ap, sym, ◌∙◌, arith}
-use Rattle.std.proofs.Math.Nat.{mul-le-mul}
+use Rattle.std.proofs.Math.Nat.{mul-le-mul, mul-le-mul_left}
 use Rattle.std.proofs.lemmas.Bool.{and_from, lt-ltb, cond-true}
 use Rattle.std.proofs.lemmas.Bool.Decides.{nat_tests}
 use Rattle.std.proofs.lemmas.Option.{cond_some, none-some, same_Some, slice_get_within}
@@ -13,8 +13,10 @@ use Rattle.sbpl_cost.specs.sbpl_cfg.Environment.{Environment}
 use Rattle.sbpl_heur.specs.declared.hop.Hop.{Hop}
 use Rattle.sbpl_heur.specs.Walks.{LiesFrom}
 use Rattle.sbpl_heur.specs.Boards.{Board, IsBoard, map_of, cell_count, cell_before, cell_after, step_cost}
-use Rattle.sbpl_heur.specs.Boards.{start_of, end_of, cost_of}
+use Rattle.sbpl_heur.specs.Boards.{start_of, end_of, cost_of, cell_in}
 use Rattle.sbpl_heur.specs.Followed.{IsArc}
+use Rattle.sbpl_heur.specs.declared.cells.Spot.{Spot}
+use Rattle.sbpl_heur.specs.Spots.{IsSpot}
 use Rattle.sbpl_heur.proofs.Locating.{before_leads, leads_before, after_leads, leads_after}
 
 -- an answer that is computed from another is Some only where the other is
@@ -64,6 +66,31 @@ module _ (b : Board) (is : IsBoard b) where
         let inside = arc_inside arc in
         ap (option_and_then (cell_before b.env c)) arc.at
         ∙ leads_before b.env b.costs arc.hop a c wide (omega (arith, inside.0, is.cells)) arc.step.leads
+
+    -- by the spot of its end
+    pub arc_before : (spot : Spot) → IsSpot b.env c spot → (arc : IsArc b a c k weight)
+        → cell_in b.env (pos spot.x -ℤ arc.hop.dx) (pos spot.y -ℤ arc.hop.dy) ≡ Some a
+    arc_before spot at arc =
+        let inside = arc_inside arc in
+        ap (λ n. cell_in b.env (pos n -ℤ arc.hop.dx) (pos spot.y -ℤ arc.hop.dy)) at.column
+        ∙ ap (λ n. cell_in b.env (pos (c % b.env.width) -ℤ arc.hop.dx) (pos n -ℤ arc.hop.dy)) at.row
+        ∙ leads_before b.env b.costs arc.hop a c wide (omega (arith, inside.0, is.cells)) arc.step.leads
+
+    -- its end is free
+    pub arc_free : (arc : IsArc b a c k weight)
+        → (slice_index b.costs c < b.env.obsthresh) × (slice_index b.costs c < b.env.inscribed)
+    arc_free arc =
+        let end : slice_index b.costs c ≡ arc.step.end = get_or_from_slice_get b.costs c arc.step.end 0 arc.step.end_is in
+        (omega (arith, end, arc.step.end_below), omega (arith, end, arc.step.end_inscribed))
+
+    -- and it weighs no less than by the cost of its end alone
+    pub arc_floor : (arc : IsArc b a c k weight) → arc.hop.cost * (slice_index b.costs c + 1) ≤ weight
+    arc_floor arc =
+        let end : slice_index b.costs c ≡ arc.step.end = get_or_from_slice_get b.costs c arc.step.end 0 arc.step.end_is in
+        let high : slice_index b.costs c + 1 ≤ max arc.step.start arc.step.end + 1 = omega (arith, end) in
+        let low : arc.hop.cost * (slice_index b.costs c + 1) ≤ arc.hop.cost * (max arc.step.start arc.step.end + 1) =
+        mul-le-mul_left arc.hop.cost high in
+        omega (arith, low, arc.step.product)
 
     pub arc_end : IsArc b a c k weight → end_of b a k ≡ Some c
     arc_end arc =

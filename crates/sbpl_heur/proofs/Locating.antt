@@ -109,3 +109,9 @@ before_is e q h x y column row =
 pub after_is : (e : Environment) (p : ℕ) (h : Hop) (x y : ℤ) → x ≡ pos (p % e.width) +ℤ h.dx
     → y ≡ pos (p / e.width) +ℤ h.dy → cell_in e x y ≡ cell_after e p h
 after_is e p h x y column row = ap (λ z. cell_in e z y) column ∙ ap (λ z. cell_in e (pos (p % e.width) +ℤ h.dx) z) row
+
+-- the cell from which a hop leads to an inner one
+pub inner_found : (e : Environment) (x y q r n : ℕ) (h : Hop) → pos x ≡ pos q +ℤ h.dx → pos y ≡ pos r +ℤ h.dy
+    → q < e.width → r < e.height → n ≡ r * e.width + q → cell_in e (pos x -ℤ h.dx) (pos y -ℤ h.dy) ≡ Some n
+inner_found e x y q r n h column row right high is =
+    cell_in_at e _ _ q r n (omega (arith, ints, column)) (omega (arith, ints, row)) right high is

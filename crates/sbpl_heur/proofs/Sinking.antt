@@ -1,14 +1,15 @@
 -- Distances that are lowered one after the other.
 use Rattle.std.proofs.Common.{◌≡◌, ◌≢◌, ℕ, ◌+◌, ◌<◌, ◌≤◌, ◌⊎◌, inl, inr, Bool, true, false, List, [], length, slice_get, get_or, set, length-set}
-use Rattle.std.proofs.Common.{replicate, ap, sym, ◌∙◌, arith, subst}
+use Rattle.std.proofs.Common.{replicate, ap, sym, ◌∙◌, arith, subst, refl, slice_index}
 use Rattle.std.specs.List.{sum_by}
 use Rattle.std.proofs.lemmas.Bool.{cases_eq, cases_lt}
 use Rattle.std.proofs.lemmas.List.{get_or-set_same, get_or-set_other, get_or-replicate, get_or_past, length-replicate}
 use Rattle.std.proofs.lemmas.List.Sums.{sum_by-set}
-use Rattle.std.proofs.lemmas.Option.{same_Some, none-some, slice_get_within}
+use Rattle.std.proofs.lemmas.Option.{same_Some, none-some, slice_get_within, get_or_from_slice_get}
 use Rattle.sbpl_serial.specs.sbpl_graph.declared.TheConstants.{FAR}
-use Rattle.sbpl_heur.specs.Boards.{IsBoard, cell_count, cost_of}
+use Rattle.sbpl_heur.specs.Boards.{Board, IsBoard, cell_count, cost_of}
 use Rattle.sbpl_heur.specs.Followed.{Walking, distance, IsMarked, IsArc, IsWalking, IsSupported, IsSinking}
+use Rattle.sbpl_heur.specs.Followed.{IsWall, IsShut, LowerNone, DiffersInWalls}
 use Rattle.sbpl_heur.specs.Followed.{IsExpanded, Takes, HasNone, one_if, left, Lowers, stays, falls}
 use Rattle.sbpl_heur.proofs.Boarding.{arc_inside, arc_start, arc_cost}
 
@@ -73,28 +74,28 @@ module _ (s : Walking) (is : IsWalking s) (cell k : ℕ) where
     ]
 
     lower_supported : IsExpanded s cell k → (x : ℕ) → x < cell_count fallen.board → distance fallen x < FAR
-        → x ≢ fallen.goal → IsSupported fallen.board fallen.distances x
+        → x ≢ fallen.goal → IsWall fallen.board x ⊎ IsSupported fallen.board fallen.distances x
     lower_supported under x within near apart = elim (cases_eq x a) [
       | inl same ↦
           let now : distance fallen x ≡ distance fallen a = ap (distance fallen) same in
-          record {
+          inr (record {
             next = cell;
             hop = k;
             weight = weight;
             arc = subst (λ y. IsArc s.board y cell k weight) (sym same) arc;
             enough = omega (arith, no_more cell, there, now);
-          }
+          })
       | inr other ↦
           let even = beside x other in
           elim (under.supported x within (omega (arith, near, even)) apart) [
-            | inl none ↦ absurd none
-            | inr held ↦ record {
+            | inl wall ↦ inl wall
+            | inr held ↦ inr (record {
               next = held.next;
               hop = held.hop;
               weight = held.weight;
               arc = held.arc;
               enough = omega (arith, no_more held.next, even, held.enough);
-            }
+            })
           ]
     ]
 
@@ -132,7 +133,7 @@ module _ (s : Walking) (is : IsWalking s) (cell k : ℕ) where
       waits = set s.waits a true;
     }) cell (k + 1)
     fell under = record {
-      supported = λ x within near apart. inr (lower_supported under x within near apart);
+      supported = lower_supported under;
       relaxed = lower_relaxed under;
     }
 
@@ -191,8 +192,27 @@ same_board s new cell k (stays same low) = (ap (λ (z : Walking). z.board) same,
 same_board s new cell k (falls a weight arc less same) =
     (ap (λ (z : Walking). z.board) same, ap (λ (z : Walking). z.goal) same)
 
+-- hops that would lower nothing are passed over
+pub skipped : (s : Walking) (cell k n : ℕ) → k ≤ n → LowerNone s cell k n → IsExpanded s cell k → IsExpanded s cell n
+skipped s cell k n less none under = record {
+  supported = under.supported;
+  relaxed = λ a c j weight arc. elim (under.relaxed a c j weight arc) [
+    | inl open_ ↦ elim open_ [
+      | inl waits ↦ inl (inl waits)
+      | inr (same, late) ↦ elim (cases_lt j n) [
+        | inl here ↦
+            let low = none a j weight late here (subst (λ x. IsArc s.board a x j weight) same arc) in
+            let even : distance s c ≡ distance s cell = ap (distance s) same in
+            inr (omega (arith, low, even))
+        | inr later ↦ inl (inr (same, later))
+      ]
+    ]
+    | inr lies ↦ inr lies
+  ];
+}
+
 -- all hops into a cell are done
-pub all_lowered : (s : Walking) (cell k : ℕ) → length s.board.hops ≤ k → IsExpanded s cell k → IsSinking s
+pub all_lowered : (s : Walking) (cell k : ℕ) → length s.board.hops ≤ k → IsExpanded s cell k → IsShut s
 all_lowered s cell k whole under = record {
   supported = under.supported;
   relaxed = λ a c j weight arc. elim (under.relaxed a c j weight arc) [
@@ -207,7 +227,7 @@ all_lowered s cell k whole under = record {
 -- a waiting cell is taken
 module _ (s new : Walking) (cell : ℕ) (rest : new ≡ record s { waits = new.waits })
     (takes : Takes s.waits new.waits cell) where
-  pub taken : IsSinking s → IsExpanded new cell 0
+  pub taken : IsShut s → IsExpanded new cell 0
   taken under = subst (λ x. IsExpanded x cell 0) (sym rest) (record {
     supported = under.supported;
     relaxed = λ a c j weight arc. elim (under.relaxed a c j weight arc) [
@@ -303,3 +323,129 @@ none_marked n marks is a = ap (λ l. get_or l a false) is ∙ elim (cases_lt a n
   | inl inside ↦ get_or-replicate n a false false inside
   | inr past ↦ get_or_past (replicate n false) a false (omega (arith, past, length-replicate {A = Bool} n false))
 ]
+
+-- a cell is an obstacle or not, and no arc leads from one or to one
+wall_or_not : (b : Board) (a : ℕ) → IsWall b a ⊎ (IsWall b a → ⊥)
+wall_or_not b a = elim (cases_lt (slice_index b.costs a) b.env.obsthresh) [
+  | inl below ↦ inr (λ wall. absurd (omega (arith, below, wall)))
+  | inr wall ↦ inl wall
+]
+
+start_open : (b : Board) (a c j weight : ℕ) → IsArc b a c j weight → IsWall b a → ⊥
+start_open b a c j weight arc wall =
+    let cost : slice_index b.costs a ≡ arc.step.start = get_or_from_slice_get b.costs a arc.step.start 0 arc.step.start_is in
+    absurd (omega (arith, cost, wall, arc.step.start_below))
+
+end_open : (b : Board) (a c j weight : ℕ) → IsArc b a c j weight → IsWall b c → ⊥
+end_open b a c j weight arc wall =
+    let cost : slice_index b.costs c ≡ arc.step.end = get_or_from_slice_get b.costs c arc.step.end 0 arc.step.end_is in
+    absurd (omega (arith, cost, wall, arc.step.end_below))
+
+pub alike : (s : Walking) → IsWalking s → DiffersInWalls s s.distances
+alike s is = record { size = refl; others = λ a either. refl; at_most = is.at_most }
+
+pub differs_there : (s : Walking) (distances : List ℕ) (cell v : ℕ) → DiffersInWalls s distances → IsWall s.board cell
+    → cell ≢ s.goal → v ≤ FAR → DiffersInWalls s (set distances cell v)
+differs_there s distances cell v differs wall beside low = record {
+  size = length-set distances cell v ∙ differs.size;
+  others = λ a either. get_or-set_other distances cell a v 0 (λ same. elim either [
+    | inl clear ↦ absurd (clear (subst (IsWall s.board) (sym same) wall))
+    | inr at ↦ absurd (beside (sym same ∙ at))
+  ]) ∙ differs.others a either;
+  at_most = λ a. elim (cases_eq a cell) [
+    | inl same ↦ elim (cases_lt cell (length distances)) [
+      | inl inside ↦
+          let there : get_or (set distances cell v) a 0 ≡ v =
+          ap (λ y. get_or (set distances cell v) y 0) same ∙ get_or-set_same distances cell v 0 inside in
+          omega (arith, there, low)
+      | inr past ↦
+          let none : get_or (set distances cell v) a 0 ≡ 0 =
+          get_or_past (set distances cell v) a 0 (omega (arith, length-set distances cell v, same, past)) in
+          omega arith
+    ]
+    | inr apart ↦ omega (arith, get_or-set_other distances cell a v 0 apart, differs.at_most a)
+  ];
+}
+
+-- one more obstacle's distance is written
+pub one_written : (s old new : Walking) (cell v : ℕ) → old ≡ record s { distances = old.distances }
+    → DiffersInWalls s old.distances → new ≡ record old { distances = set old.distances cell v } → IsWall old.board cell
+    → cell ≢ old.goal → v ≤ FAR → (new ≡ record s { distances = new.distances }) × DiffersInWalls s new.distances
+one_written s old new cell v rest differs is wall beside low =
+    let list : new.distances ≡ set old.distances cell v = ap (λ (z : Walking). z.distances) is in
+    let board : old.board ≡ s.board = ap (λ (z : Walking). z.board) rest in
+    let goal : old.goal ≡ s.goal = ap (λ (z : Walking). z.goal) rest in (
+      is ∙ ap (λ (z : Walking). record z { distances = set old.distances cell v }) rest
+          ∙ ap (λ (l : List ℕ). record s { distances = l }) (sym list),
+      subst (DiffersInWalls s) (sym list) (differs_there s old.distances cell v differs
+          (subst (λ b. IsWall b cell) board wall) (λ at. beside (at ∙ sym goal)) low),
+    )
+
+-- where the distances of obstacles alone differ
+module _ (s : Walking) (distances : List ℕ) (differs : DiffersInWalls s distances) where
+  still_held : (a : ℕ) → (IsWall s.board a → ⊥) → IsSupported s.board s.distances a → IsSupported s.board distances a
+  still_held a clear held = record {
+    next = held.next;
+    hop = held.hop;
+    weight = held.weight;
+    arc = held.arc;
+    enough = omega (
+      arith,
+      held.enough,
+      differs.others a (inl clear),
+      differs.others held.next (inl (end_open s.board a held.next held.hop held.weight held.arc)),
+    );
+  }
+
+  pub walking_beside : IsWalking s → IsWalking (record s { distances = distances })
+  walking_beside is = record {
+    board = is.board;
+    goal = is.goal;
+    distances = differs.size ∙ is.distances;
+    waits = is.waits;
+    doubts = is.doubts;
+    at_goal = differs.others s.goal (inr refl) ∙ is.at_goal;
+    at_most = differs.at_most;
+  }
+
+  still_relaxed : (a c j weight : ℕ) → IsArc s.board a c j weight → distance s a ≤ weight + distance s c
+      → slice_index distances a ≤ weight + slice_index distances c
+  still_relaxed a c j weight arc low = omega (
+    arith,
+    low,
+    differs.others a (inl (start_open s.board a c j weight arc)),
+    differs.others c (inl (end_open s.board a c j weight arc)),
+  )
+
+  -- obstacles say nothing any more
+  pub now_shut : IsSinking s → IsShut (record s { distances = distances })
+  now_shut under = record {
+    supported = λ a inside near apart. elim (wall_or_not s.board a) [
+      | inl wall ↦ inl wall
+      | inr clear ↦ elim (under.supported a inside (omega (arith, near, differs.others a (inl clear))) apart) [
+        | inl none ↦ absurd none
+        | inr held ↦ inr (still_held a clear held)
+      ]
+    ];
+    relaxed = λ a c j weight arc. elim (under.relaxed a c j weight arc) [
+      | inl waits ↦ inl waits
+      | inr low ↦ inr (still_relaxed a c j weight arc low)
+    ];
+  }
+
+  -- obstacles are not reached
+  pub now_open : ((a : ℕ) → a < cell_count s.board → a ≢ s.goal → IsWall s.board a → slice_index distances a ≡ FAR)
+      → IsShut s → IsSinking (record s { distances = distances })
+  now_open far under = record {
+    supported = λ a inside near apart. elim (wall_or_not s.board a) [
+      | inl wall ↦ absurd (omega (arith, near, far a inside apart wall))
+      | inr clear ↦ elim (under.supported a inside (omega (arith, near, differs.others a (inl clear))) apart) [
+        | inl wall ↦ absurd (clear wall)
+        | inr held ↦ inr (still_held a clear held)
+      ]
+    ];
+    relaxed = λ a c j weight arc. elim (under.relaxed a c j weight arc) [
+      | inl waits ↦ inl waits
+      | inr low ↦ inr (still_relaxed a c j weight arc low)
+    ];
+  }

@@ -52,9 +52,27 @@ pub record IsUnderway (s : Walking) (doubted : ℕ → Type 0) (open_ : ℕ → 
 abbrev pub IsSinking : Walking → Type 0
 IsSinking s = IsUnderway s (λ _. ⊥) (λ _ c _. IsMarked s.waits c)
 
+-- a cell is an obstacle, from which no arc leads and to which none does
+abbrev pub IsWall : Board → ℕ → Type 0
+IsWall b a = b.env.obsthresh ≤ slice_index b.costs a
+
+-- the same, where the distances of obstacles say nothing
+abbrev pub IsShut : Walking → Type 0
+IsShut s = IsUnderway s (IsWall s.board) (λ _ c _. IsMarked s.waits c)
+
 -- the same, and the arcs from hop k on into a cell are open too
 abbrev pub IsExpanded : Walking → ℕ → ℕ → Type 0
-IsExpanded s cell k = IsUnderway s (λ _. ⊥) (λ _ c j. IsMarked s.waits c ⊎ ((c ≡ cell) × (k ≤ j)))
+IsExpanded s cell k = IsUnderway s (IsWall s.board) (λ _ c j. IsMarked s.waits c ⊎ ((c ≡ cell) × (k ≤ j)))
+
+-- the arcs by hops k to n into a cell would not lower a distance
+abbrev pub LowerNone : Walking → ℕ → ℕ → ℕ → Type 0
+LowerNone s cell k n = (a j weight : ℕ) → k ≤ j → j < n → IsArc s.board a cell j weight → distance s a ≤ weight + distance s cell
+
+-- other distances are those of obstacles beside the goal
+pub record DiffersInWalls (s : Walking) (distances : List ℕ) : Type 0 where
+  pub size : length distances ≡ length s.distances
+  pub others : (a : ℕ) → (IsWall s.board a → ⊥) ⊎ (a ≡ s.goal) → slice_index distances a ≡ distance s a
+  pub at_most : (a : ℕ) → slice_index distances a ≤ FAR
 
 -- the marked cells are in doubt, and the arcs into waiting cells are open
 abbrev pub IsDoubtful : Walking → Type 0

@@ -8,7 +8,11 @@ ghost use Rattle.sbpl_cost.specs.PrimitiveCost.{most_cost};
 ghost use Rattle.sbpl_cost.specs.States.{IsOff};
 ghost use Rattle.sbpl_heur.specs.Boards.{IsBoard, cell_in, step_cost, cell_count};
 ghost use Rattle.sbpl_heur.specs.Boards.{start_of, end_of, cost_of};
-ghost use Rattle.sbpl_heur.specs.Spots.{IsSpot};
+ghost use Rattle.sbpl_heur.specs.Spots.{IsSpot, IsReach, IsInner, IsOver};
+ghost use Rattle.sbpl_heur.specs.Boards.{AreLight, cell_before};
+ghost use Rattle.sbpl_heur.specs.Followed.{IsArc, IsWall};
+ghost use Rattle.std.specs.Prelude.{slice_get, ◌≤ℤ◌, ◌<ℤ◌, ◌-ℤ◌};
+ghost use Rattle.sbpl_heur.specs.declared.hop.Hop.{Hop};
 
 use crate::hop::Hop;
 use sbpl_cost::{Env, Pose};
@@ -28,6 +32,13 @@ pub(crate) struct Cells {
 /// The column and the row of a cell.
 #[derive(Clone, Copy)]
 pub(crate) struct Spot {
+    x: u32,
+    y: u32,
+}
+
+/// How far hops lead along each axis, at most.
+#[derive(Clone, Copy)]
+pub(crate) struct Reach {
     x: u32,
     y: u32,
 }
@@ -111,6 +122,85 @@ fn coordinate_after(x: u32, d: i32) -> i64
     ensures after { result ≡ pos x +ℤ d }
 {
     i64::from(x) + i64::from(d)
+}
+
+/// A coordinate of one of the `count` cells of an axis.
+fn as_cell(count: u32, x: i64) -> u32
+    requires low { pos 0 ≤ℤ x }
+    requires high { x <ℤ pos count }
+    ensures cell { x ≡ pos result }
+    ensures inside { result < count }
+{
+    x as u32
+}
+
+/// The coordinate from which this many cells lead to another, on an axis of `count` cells.
+fn inner_coordinate(count: u32, x: u32, d: i32) -> u32
+    requires over { IsOver count x d }
+    ensures before { pos x ≡ pos result +ℤ d }
+    ensures inside { result < count }
+{
+    as_cell(count, coordinate_before(x, d))
+}
+
+/// The cell from which a hop leads to the inner cell at this spot.
+fn inner_before(env: &Env, spot: Spot, hop: &Hop) -> u32
+    requires column { IsOver env.now.width spot.x hop.now.dx }
+    requires row { IsOver env.now.height spot.y hop.now.dy }
+    ensures value { cell_in env.now (pos spot.x -ℤ hop.now.dx) (pos spot.y -ℤ hop.now.dy) ≡ Some result }
+    ensures inside { result < env.now.width * env.now.height }
+{
+    let x = inner_coordinate(env.width, spot.x, hop.dx);
+    let y = inner_coordinate(env.height, spot.y, hop.dy);
+    number_of(env, x, y)
+}
+
+/// The first of these hops from `from` on whose start lies farther than the hop's cost, taken `times`, from a cell at this distance;
+/// or how many hops there are.
+fn first_farther(
+    env: &Env,
+    hops: &[Hop],
+    distances: &[u64],
+    spot: Spot,
+    distance: u64,
+    times: u32,
+    from: u32,
+) -> u32
+    requires light { AreLight hops.now }
+    requires few { length hops.now ≤ 4096 }
+    requires size { length distances.now ≡ env.now.width * env.now.height }
+    requires inner { IsInner env.now hops.now spot }
+    requires low { distance ≤ FAR }
+    requires times { times ≤ 256 }
+    requires from { from < length hops.now }
+    ensures from { from ≤ result }
+    ensures within { result ≤ length hops.now }
+    ensures skipped { (j a : ℕ) (h : Hop) → from ≤ j → j < result → slice_get hops.now j ≡ Some h
+        → cell_in env.now (pos spot.x -ℤ h.dx) (pos spot.y -ℤ h.dy) ≡ Some a
+        → slice_index distances.now a ≤ h.cost * times + distance }
+{
+    for j in from..hops.len() as u32 {
+        let hop = &hops[j as usize];
+        let start = inner_before(env, spot, hop);
+        if u64::from(hop.cost * times) + distance < distances[start as usize] {
+            return j;
+        }
+    }
+    hops.len() as u32
+}
+
+/// Whether a coordinate is this far or farther from both ends of an axis of `count` cells.
+fn is_clear(count: u32, x: u32, reach: u32) -> bool
+    ensures clear { IsTrue result ↔ ((reach ≤ x) × (x + reach < count)) }
+{
+    reach <= x && u64::from(x) + u64::from(reach) < u64::from(count)
+}
+
+/// Whether a step to a cell of this cost may be free.
+fn is_end_free(env: &Env, end: u8) -> bool
+    ensures free { IsTrue result ↔ ((end < env.now.obsthresh) × (end < env.now.inscribed)) }
+{
+    end < env.obsthresh && end < env.inscribed
 }
 
 /// Whether a step between cells of these costs is free: both are below `obsthresh`, and the end is below the inscribed threshold.
@@ -333,6 +423,66 @@ impl Cells {
         let x = coordinate_after(spot.x, hop.dx);
         let y = coordinate_after(spot.y, hop.dy);
         cell_in(&self.env, x, y)
+    }
+
+    /// Whether a cell is an obstacle.
+    pub(crate) fn is_wall(&self, cell: u32) -> bool
+        requires cell { cell < cell_count self.now }
+        ensures wall { IsTrue result ↔ IsWall self.now cell }
+    {
+        self.costs[cell as usize] >= self.env.obsthresh
+    }
+
+    /// How far hops lead along each axis, at most.
+    pub(crate) fn reach(&self) -> Reach
+        ensures reach { IsReach self.now.hops result }
+    {
+        let mut reach = Reach { x: 0, y: 0 };
+        for hop in self.hops.as_slice() {
+            reach.x = reach.x.max(hop.dx.unsigned_abs());
+            reach.y = reach.y.max(hop.dy.unsigned_abs());
+        }
+        reach
+    }
+
+    /// Whether a spot is farther from each border than hops lead.
+    pub(crate) fn is_inner(&self, spot: Spot, reach: Reach) -> bool
+        requires reach { IsReach self.now.hops reach }
+        ensures inner { IsTrue result → IsInner self.now.env self.now.hops spot }
+    {
+        if !is_clear(self.env.width, spot.x, reach.x) {
+            return false;
+        }
+        is_clear(self.env.height, spot.y, reach.y)
+    }
+
+    /// The first hop from `k` on that may lower, in this list of distances, that of the cell from which it leads to an inner one; or
+    /// how many hops there are. Of the costs it looks at the cell's alone.
+    pub(crate) fn next_nearer(&self, distances: &[u64], cell: u32, spot: Spot, k: u32) -> u32
+        requires size { length distances.now ≡ cell_count self.now }
+        requires cell { cell < cell_count self.now }
+        requires low { slice_index distances.now cell ≤ FAR }
+        requires spot { IsSpot self.now.env cell spot }
+        requires hop { k < length self.now.hops }
+        requires inner { IsInner self.now.env self.now.hops spot }
+        ensures from { k ≤ result }
+        ensures within { result ≤ length self.now.hops }
+        ensures skipped { (a j weight : ℕ) → k ≤ j → j < result → IsArc self.now a cell j weight
+            → slice_index distances.now a ≤ weight + slice_index distances.now cell }
+    {
+        let end = self.costs[cell as usize];
+        if !is_end_free(&self.env, end) {
+            return self.hops.len() as u32;
+        }
+        first_farther(
+            &self.env,
+            self.hops.as_slice(),
+            distances,
+            spot,
+            distances[cell as usize],
+            u32::from(end) + 1,
+            k,
+        )
     }
 
     /// What hop `k` costs from a cell to another one, or `FAR` where that step is not free.

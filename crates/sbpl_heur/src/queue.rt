@@ -1,6 +1,6 @@
 //! Buckets of cells by their distances, which say which waiting cell is best taken next.
 
-ghost use Rattle.std.specs.Prelude.{◌<◌, ◌≤◌, ◌^◌};
+ghost use Rattle.std.specs.Prelude.{◌<◌};
 
 use sbpl_serial::{FAR, NoMemory};
 use std::alloc::Global;
@@ -8,47 +8,75 @@ use std::alloc::Global;
 /// The number of buckets: a power of two.
 const RING: u32 = 1 << 12;
 
-/// The cells before and after one in its bucket.
+/// The number of bands: a power of two.
+const BANDS: u32 = 1 << 6;
+
+/// Neighbouring cells: a band has this power of two of them, before the next begins.
+const BAND_SHIFT: u32 = 16;
+
+/// No entry.
+const NONE: u32 = u32::MAX;
+
+/// A cell that is in a bucket, and the entry after it there.
 #[derive(Clone, Copy)]
-struct Link {
-    before: u32,
-    after: u32,
+struct Entry {
+    cell: u32,
+    next: u32,
 }
 
 /// Cells by their distances to the goal: a ring of buckets, each of which has the cells whose distances lie in a range
-/// of one width (Dial 1969). A bucket is a list through the cells, and those of later rounds wait in the last bucket.
+/// of one width (Dial 1969), and those of later rounds wait in the last bucket. The cells of the first bucket are parted into
+/// bands of rows, so that cells taken one after the other lie near each other in memory. A cell whose distance is lowered comes
+/// in once more, and its earlier entry is dropped when its turn comes. Where there is no room for a cell it is left out, and
+/// all are listed anew later.
 /// Nothing rests on the order, nor on which cells it has: it only advises `take`, which looks at the marks themselves.
 #[derive(Drop)]
 pub(crate) struct Buckets {
-    /// For each cell and then for each bucket, its neighbours in the list of a bucket.
-    links: Vec<Link>,
-    cells: u32,
+    entries: Vec<Entry>,
+    /// How many entries were ever used since the buckets were emptied; the others follow.
+    used: u32,
+    /// The first entry of those that are free again.
+    free: u32,
+    /// The first entry of each bucket, and then of each band.
+    heads: Vec<u32>,
     /// A bucket is two to this power wide.
     shift: u32,
-    /// The number of the bucket that cells are taken from.
+    /// The number of the bucket that cells are taken from, and the band.
     at: u64,
-    /// How many cells are in buckets.
+    band: u32,
+    /// How many entries are in buckets and bands, and how many in bands.
     count: u32,
-    ghost few: { cells ≤ 2 ^ 23 },
+    near: u32,
+    /// Whether a cell found no room.
+    is_short: bool,
     ghost narrow: { shift < 64 },
+}
+
+/// The list in which the cells of the first bucket wait that lie in this cell's band.
+fn band_of(cell: u32) -> u32 {
+    RING + (cell >> BAND_SHIFT) % BANDS
 }
 
 impl Buckets {
     /// Empty buckets for this number of cells.
-    pub(crate) fn new(alloc: Global, cells: u32) -> Result<Buckets, NoMemory>
-        requires few { cells ≤ 2 ^ 23 }
-    {
-        let none = Link {
-            before: 0,
-            after: 0,
+    pub(crate) fn new(alloc: Global, cells: u32) -> Result<Buckets, NoMemory> {
+        let none = Entry {
+            cell: 0,
+            next: NONE,
         };
-        let links = vec![in alloc; none; cells as usize + RING as usize]?;
+        let entries = vec![in alloc; none; cells as usize / 2 + RING as usize]?;
+        let heads = vec![in alloc; NONE; RING as usize + BANDS as usize]?;
         Ok(Buckets {
-            links,
-            cells,
+            entries,
+            used: 0,
+            free: NONE,
+            heads,
             shift: 0,
             at: 0,
+            band: 0,
             count: 0,
+            near: 0,
+            is_short: false,
         })
     }
 
@@ -58,58 +86,124 @@ impl Buckets {
         let narrow = costs.0.max(1).ilog2();
         let wide = costs.1.max(1).ilog2().saturating_sub(3);
         self.shift = narrow.max(wide);
-        self.at = first >> self.shift;
-        self.count = 0;
-        for k in self.cells..self.cells + RING {
-            self.tie(k, k);
-        }
+        self.restart(first);
     }
 
-    /// Makes two neighbours.
-    fn tie(&mut self, before: u32, after: u32) {
-        if let Some(link) = self.links.get_mut(before as usize) {
-            link.after = after;
-        }
-        if let Some(link) = self.links.get_mut(after as usize) {
-            link.before = before;
-        }
+    /// Empties the buckets, which stay as wide.
+    pub(crate) fn restart(&mut self, first: u64) {
+        self.used = 0;
+        self.free = NONE;
+        self.heads.fill(NONE);
+        self.at = first >> self.shift;
+        self.band = 0;
+        self.count = 0;
+        self.near = 0;
+        self.is_short = false;
     }
 
     /// Puts a cell into the bucket of its distance.
     pub(crate) fn put(&mut self, cell: u32, distance: u64) {
         let last = self.at.saturating_add(u64::from(RING) - 1);
         let key = (distance >> self.shift).max(self.at).min(last);
-        let head = self.cells + (key % u64::from(RING)) as u32;
-        if let Some(link) = self.links.get(head as usize) {
-            let first = link.after;
-            self.tie(head, cell);
-            self.tie(cell, first);
-            self.count = self.count.wrapping_add(1);
+        let Some(entry) = self.vacant() else {
+            self.is_short = true;
+            return;
+        };
+        if key == self.at {
+            self.near = self.near.wrapping_add(1);
+            self.push(entry, cell, band_of(cell));
+        } else {
+            self.push(entry, cell, (key % u64::from(RING)) as u32);
+        }
+        self.count = self.count.wrapping_add(1);
+    }
+
+    /// Takes a free entry.
+    fn vacant(&mut self) -> Option<u32> {
+        if let Some(entry) = self.entries.get(self.free as usize) {
+            let free = self.free;
+            self.free = entry.next;
+            return Some(free);
+        }
+        let fresh = self.used;
+        if (fresh as usize) < self.entries.len() {
+            self.used = fresh.wrapping_add(1);
+            return Some(fresh);
+        }
+        None
+    }
+
+    /// Makes an entry the first of a list.
+    fn push(&mut self, entry: u32, cell: u32, list: u32) {
+        if let Some(head) = self.heads.get_mut(list as usize) {
+            let next = *head;
+            *head = entry;
+            if let Some(place) = self.entries.get_mut(entry as usize) {
+                *place = Entry { cell, next };
+            }
         }
     }
 
-    /// Takes a cell out of its bucket.
-    pub(crate) fn remove(&mut self, cell: u32) {
-        if let Some(link) = self.links.get(cell as usize) {
-            let Link { before, after } = *link;
-            self.tie(before, after);
+    /// Takes the first entry of a list away: its number and its cell.
+    fn pop(&mut self, list: u32) -> Option<(u32, u32)> {
+        let head = self.heads.get_mut(list as usize)?;
+        let entry = *head;
+        let Entry { cell, next } = *self.entries.get(entry as usize)?;
+        *head = next;
+        Some((entry, cell))
+    }
+
+    /// Frees an entry.
+    fn release(&mut self, entry: u32) {
+        if let Some(place) = self.entries.get_mut(entry as usize) {
+            place.next = self.free;
+            self.free = entry;
             self.count = self.count.wrapping_sub(1);
         }
     }
 
-    /// Takes a cell of the first bucket that has some.
-    pub(crate) fn first(&mut self, distances: &[u64]) -> Option<u32> {
-        for _ in 0..u32::MAX {
-            if self.count == 0 {
-                return None;
+    /// Parts the cells of the first bucket into bands, without those that are not marked any more.
+    fn spread(&mut self, marks: &[bool]) {
+        let bucket = (self.at % u64::from(RING)) as u32;
+        for _ in 0..self.entries.len() {
+            let Some((entry, cell)) = self.pop(bucket) else {
+                return;
+            };
+            if let Some(true) = marks.get(cell as usize) {
+                self.near = self.near.wrapping_add(1);
+                self.push(entry, cell, band_of(cell));
+            } else {
+                self.release(entry);
             }
-            let head = self.cells + (self.at % u64::from(RING)) as u32;
-            let cell = self.links.get(head as usize)?.after;
-            if cell >= self.cells {
-                self.at = self.at.wrapping_add(1);
+        }
+    }
+
+    /// Turns to the next bucket.
+    fn advance(&mut self, marks: &[bool]) {
+        self.at = self.at.wrapping_add(1);
+        self.band = 0;
+        self.spread(marks);
+    }
+
+    /// Takes a marked cell of the first bucket that has some.
+    pub(crate) fn first(&mut self, marks: &[bool], distances: &[u64]) -> Option<u32> {
+        for _ in 0..u64::MAX {
+            if self.near == 0 {
+                if self.count == 0 {
+                    return None;
+                }
+                self.advance(marks);
                 continue;
             }
-            self.remove(cell);
+            let Some((entry, cell)) = self.pop(RING + self.band % BANDS) else {
+                self.band = self.band.wrapping_add(1);
+                continue;
+            };
+            self.near = self.near.wrapping_sub(1);
+            self.release(entry);
+            if !*marks.get(cell as usize)? {
+                continue;
+            }
             let distance = *distances.get(cell as usize)?;
             if distance >> self.shift <= self.at || distance >= FAR {
                 return Some(cell);
@@ -117,5 +211,10 @@ impl Buckets {
             self.put(cell, distance);
         }
         None
+    }
+
+    /// Whether a cell found no room since the buckets were emptied.
+    pub(crate) fn is_short(&self) -> bool {
+        self.is_short
     }
 }

@@ -4,12 +4,13 @@ ghost use Rattle.std.specs.Prelude.{◌≡◌, ◌≢◌, ℕ, ◌+◌, ◌*◌,
 ghost use Rattle.std.specs.Prelude.{[], length, slice_index, slice_set, vec_capacity};
 ghost use Rattle.sbpl_serial.specs.sbpl_graph.declared.TheConstants.{FAR};
 ghost use Rattle.sbpl_heur.specs.Boards.{IsBoard, cell_count, map_of, start_of, end_of};
-ghost use Rattle.sbpl_heur.specs.Spots.{IsSpot};
+ghost use Rattle.sbpl_heur.specs.Spots.{IsSpot, IsReach, IsInner};
 ghost use Rattle.sbpl_heur.specs.Followed.{Walking, IsWalking, IsUnderway, IsSinking, IsExpanded, IsDoubtful, IsDoubtfulBeside};
-ghost use Rattle.sbpl_heur.specs.Followed.{IsSupported, Takes, HasNone, left, Lowers, Marks, AreRoused, IsRousedBy};
+ghost use Rattle.sbpl_heur.specs.Followed.{IsSupported, Takes, HasNone, left, Lowers, LowerNone, Marks, AreRoused, IsRousedBy};
+ghost use Rattle.sbpl_heur.specs.Followed.{IsShut, IsWall};
 ghost use Rattle.sbpl_heur.specs.Followed.{HasLeast, distance, IsMarked};
 
-use crate::cells::{Cells, Spot};
+use crate::cells::{Cells, Reach, Spot};
 use crate::hop::Hop;
 use crate::queue::Buckets;
 use sbpl_cost::Env;
@@ -55,6 +56,19 @@ impl Model for Walks {
     }) };
 }
 
+/// The marked cell that the queue advises to take. Where it left some out for want of room, all are listed anew.
+fn advised(marks: &[bool], queue: &mut Buckets, distances: &[u64]) -> Option<u32>
+    requires few { length marks.now ≤ 2 ^ 23 }
+{
+    let first = queue.first(marks, distances);
+    if first.is_some() || !queue.is_short() {
+        return first;
+    }
+    queue.restart(least_of(marks, distances));
+    list(marks, distances, queue);
+    queue.first(marks, distances)
+}
+
 /// Takes a marked cell: the one that the queue advises. Where it advises none, all marks are looked at.
 fn take(marks: &mut Vec<bool>, queue: &mut Buckets, distances: &[u64]) -> Option<u32>
     requires few { length marks.old.items ≤ 2 ^ 23 }
@@ -62,7 +76,7 @@ fn take(marks: &mut Vec<bool>, queue: &mut Buckets, distances: &[u64]) -> Option
     ensures none { IfNone result (HasNone marks.old.items) }
     ensures kept { IfNone result (marks.new.items ≡ marks.old.items) }
 {
-    if let Some(cell) = queue.first(distances) {
+    if let Some(cell) = advised(marks.as_slice(), queue, distances) {
         if (cell as usize) < marks.len() && marks[cell as usize] {
             marks[cell as usize] = false;
             return Some(cell);
@@ -78,13 +92,11 @@ fn take(marks: &mut Vec<bool>, queue: &mut Buckets, distances: &[u64]) -> Option
 }
 
 /// The least distance of a marked cell.
-fn least_of(marks: &[bool], distances: &[u64]) -> u64
-    requires size { length distances.now ≡ length marks.now }
-{
+fn least_of(marks: &[bool], distances: &[u64]) -> u64 {
     let mut least = FAR;
-    for cell in 0..marks.len() {
-        if marks[cell] {
-            least = least.min(distances[cell]);
+    for (marked, distance) in marks.iter().zip(distances.iter()) {
+        if *marked {
+            least = least.min(*distance);
         }
     }
     least
@@ -92,12 +104,13 @@ fn least_of(marks: &[bool], distances: &[u64]) -> u64
 
 /// Puts all marked cells into the queue.
 fn list(marks: &[bool], distances: &[u64], queue: &mut Buckets)
-    requires size { length distances.now ≡ length marks.now }
     requires few { length marks.now ≤ 2 ^ 23 }
 {
-    for cell in 0..marks.len() {
-        if marks[cell] {
-            queue.put(cell as u32, distances[cell]);
+    for (cell, marked) in marks.iter().enumerate() {
+        if *marked {
+            if let Some(distance) = distances.get(cell) {
+                queue.put(cell as u32, *distance);
+            }
         }
     }
 }
@@ -107,11 +120,7 @@ fn mark(marks: &mut Vec<bool>, queue: &mut Buckets, cell: u32, distance: u64)
     requires cell { cell < length marks.old.items }
     ensures marked { marks.new.items ≡ slice_set marks.old.items cell true }
 {
-    let marked = &mut marks[cell as usize];
-    if *marked {
-        queue.remove(cell);
-    }
-    *marked = true;
+    marks[cell as usize] = true;
     queue.put(cell, distance);
 }
 
@@ -196,10 +205,62 @@ impl Walks {
         ensures goal { self.new.goal ≡ self.old.goal }
         ensures least { HasLeast self.new }
     {
+        let reach = self.cells.reach();
+        self.shut();
         self.list_waiting();
         while let Some(cell) = self.take_waiting() {
-            self.expand(cell);
+            self.expand(cell, reach);
         }
+        self.open();
+    }
+
+    /// Gives obstacles distance 0 while distances are lowered, so that none of theirs seems worth lowering.
+    fn shut(&mut self)
+        requires sinking { IsSinking self.old }
+        ensures rest { self.new ≡ record self.old { distances = self.new.distances } }
+        ensures shut { IsShut self.new }
+        ensures sizes { IsWalking self.new }
+    {
+        for cell in 0..self.cells.count() {
+            if self.is_blocked(cell) {
+                self.set_distance(cell, 0);
+            }
+        }
+    }
+
+    /// Gives obstacles distance `FAR` again.
+    fn open(&mut self)
+        requires shut { IsShut self.old }
+        ensures rest { self.new ≡ record self.old { distances = self.new.distances } }
+        ensures sinking { IsSinking self.new }
+        ensures sizes { IsWalking self.new }
+    {
+        for cell in 0..self.cells.count() {
+            if self.is_blocked(cell) {
+                self.set_distance(cell, FAR);
+            }
+        }
+    }
+
+    /// Whether a cell is an obstacle, and not the goal.
+    fn is_blocked(&self, cell: u32) -> bool
+        requires cell { cell < cell_count self.now.board }
+        ensures wall { IsTrue result → IsWall self.now.board cell }
+        ensures beside { IsTrue result → cell ≢ self.now.goal }
+        ensures other { IsWall self.now.board cell → cell ≢ self.now.goal → IsTrue result }
+    {
+        cell != self.goal && self.cells.is_wall(cell)
+    }
+
+    /// Gives a cell other than the goal a distance.
+    fn set_distance(&mut self, cell: u32, distance: u64)
+        requires cell { cell < cell_count self.old.board }
+        requires beside { cell ≢ self.old.goal }
+        requires low { distance ≤ FAR }
+        ensures set { self.new ≡ record self.old { distances = slice_set self.old.distances cell distance } }
+        ensures sizes { IsWalking self.old }
+    {
+        self.distances[cell as usize] = distance;
     }
 
     /// Puts the waiting cells into the queue.
@@ -229,18 +290,45 @@ impl Walks {
     }
 
     /// Lowers the distances of the cells from which arcs lead into a cell.
-    fn expand(&mut self, cell: u32)
+    fn expand(&mut self, cell: u32, reach: Reach)
         requires cell { cell < cell_count self.old.board }
+        requires reach { IsReach self.old.board.hops reach }
         requires expanded { IsExpanded self.old cell 0 }
-        ensures sinking { IsSinking self.new }
+        ensures shut { IsShut self.new }
         ensures board { self.new.board ≡ self.old.board }
         ensures goal { self.new.goal ≡ self.old.goal }
         ensures left { left self.new ≤ left self.old }
     {
         let spot = self.cells.spot_of(cell);
-        for k in 0..self.cells.fan() {
+        let is_inner = self.cells.is_inner(spot, reach);
+        let fan = self.cells.fan();
+        let mut k = 0;
+        while k < fan {
+            k = self.next_lower(cell, spot, k, is_inner);
+            if k >= fan {
+                return;
+            }
             self.lower(cell, spot, k);
+            k += 1;
         }
+    }
+
+    /// The first hop from `k` on that may lower the distance of the cell from which it leads into a cell, or how many hops there
+    /// are. At an inner cell hops that lower nothing are passed over, by the cell's own cost alone.
+    fn next_lower(&self, cell: u32, spot: Spot, k: u32, is_inner: bool) -> u32
+        requires cell { cell < cell_count self.now.board }
+        requires spot { IsSpot self.now.board.env cell spot }
+        requires hop { k < length self.now.board.hops }
+        requires inner { IsTrue is_inner → IsInner self.now.board.env self.now.board.hops spot }
+        ensures from { k ≤ result }
+        ensures within { result ≤ length self.now.board.hops }
+        ensures skipped { LowerNone self.now cell k result }
+    {
+        if !is_inner {
+            return k;
+        }
+        self.cells
+            .next_nearer(self.distances.as_slice(), cell, spot, k)
     }
 
     /// Lowers the distance of the cell from which hop `k` leads into a cell, if it may.

@@ -1,10 +1,10 @@
 use Rattle.std.proofs.Common.{◌≡◌}
-use Rattle.sbpl_heur.specs.Followed.{IsSinking, left}
+use Rattle.sbpl_heur.specs.Followed.{IsShut, left}
 use Rattle.sbpl_heur.proofs.walks.Walks.settle.Given as goal
 
 abbrev pub invariant-loop-cell : goal.invariant-loop-cell
 invariant-loop-cell l = record {
-  sinking : IsSinking l.self;
+  shut : IsShut l.self;
   board : l.self.board ≡ l.fn.self.board;
   goal : l.self.goal ≡ l.fn.self.goal;
 }
