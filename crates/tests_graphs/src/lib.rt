@@ -1,4 +1,4 @@
-//! Worked examples of the crates that plan on any graph, of grids with eight neighbours, and of the board on which the newest path
+//! Worked examples of the crates that plan on any graph, of grids with eight neighbours, of lists kept by pages, and of the board on which the newest path
 //! stands, as tests and nothing else. They stand here, in one crate, since a crate with tests is proved twice, and each check of a
 //! crate reads all that it stands on.
 #![tactic(auto)]
@@ -19,6 +19,8 @@ mod grids;
 mod labels;
 #[cfg(test)]
 mod open;
+#[cfg(test)]
+mod pages;
 #[cfg(test)]
 mod plan;
 #[cfg(test)]
