@@ -204,7 +204,10 @@ fn labels_from<G: Graph>(alloc: Global, graph: &G, start: u32) -> Option<Labels>
     requires start { start < (G.network graph.now).states }
     ensures ready { IfSome result (λ labels. (count : ℕ) → AreReady (G.network graph.now) labels count) }
 {
-    Labels::open(alloc, graph.states(), start).ok()
+    match Labels::open(alloc, graph.states(), start) {
+        Ok(labels) => Some(labels),
+        Err(_) => None,
+    }
 }
 
 /// Whether a row holds on the way from the first state to a goal.
