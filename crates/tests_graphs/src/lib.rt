@@ -1,6 +1,6 @@
-//! Worked examples of the crates that plan on any graph, of grids with eight neighbours, of lists kept by pages, and of the board on which the newest path
-//! stands, as tests and nothing else. They stand here, in one crate, since a crate with tests is proved twice, and each check of a
-//! crate reads all that it stands on.
+//! Worked examples of the crates that plan on any graph, of grids with eight neighbours, of lists kept by pages, and of the board
+//! on which the newest path stands, as tests and nothing else. They stand here, in one crate, since a crate with tests is proved
+//! twice, and each check of a crate reads all that it stands on.
 #![tactic(auto)]
 
 #[cfg(test)]
