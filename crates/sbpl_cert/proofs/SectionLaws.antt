@@ -225,7 +225,7 @@ module _ (numbers : NumbersAreTheirDigits) where
   path_out o t (a ∷ b ∷ c ∷ ts) rest is h =
       let cost = digits_out numbers (2 ^ 62) a.bytes h.0 h.1 in
       let m = bound_out numbers b.bytes h.2.0 h.2.1 in
-      let n = digits_out numbers (2 ^ 23) c.bytes h.2.2.0 h.2.2.1 in
+      let n = digits_out numbers (2 ^ 28) c.bytes h.2.2.0 h.2.2.1 in
       let parts =
       says_parts (turns (unsigned_abs h.2.2.0) arc_turn [])
       (λ arcs. done (pathed (unsigned_abs h.0) (unsigned_abs h.2.0) arcs)) ts rest o h.2.2.2 in
@@ -265,7 +265,7 @@ module _ (numbers : NumbersAreTheirDigits) where
       bound_in numbers b y.bytes h.1.0 fits.1 fits.2,
       (
         pos (length arcs),
-        digits_in numbers (2 ^ 23) (length arcs) z.bytes h.1.1.0 small.few,
+        digits_in numbers (2 ^ 28) (length arcs) z.bytes h.1.1.0 small.few,
         says_both (turns (length arcs) arc_turn []) (λ ks. done (pathed cost b ks)) ts rest rest arcs
             (pathed cost b arcs) (arcs_in arcs ts rest small.small h.1.1.1) (refl, refl),
       ),

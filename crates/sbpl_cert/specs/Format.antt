@@ -96,7 +96,7 @@ arc_turn arcs = item (digits 4096) (λ _ k. done (arcs ++ unsigned_abs k ∷ [])
 -- the cost, the bound, how many arcs there are, and their numbers
 unfoldable pub path_format : Format LabelFault (Outcome × List ℕ)
 path_format =
-    item (digits (2 ^ 62)) (λ _ cost. item bound (λ _ b. item (digits (2 ^ 23)) (λ _ n.
+    item (digits (2 ^ 62)) (λ _ cost. item bound (λ _ b. item (digits (2 ^ 28)) (λ _ n.
     and_then (turns (unsigned_abs n) arc_turn []) (λ arcs. done (outcome.Path (unsigned_abs cost) (unsigned_abs b), arcs)))))
 
 unfoldable pub outcome_format : Format LabelFault (Outcome × List ℕ)

@@ -55,9 +55,9 @@ IsOutcomeInRange (outcome.Path cost bound) = (cost < 2 ^ 62) × (1000 ≤ bound)
 IsOutcomeInRange outcome.NoPath = Unit {0}
 IsOutcomeInRange outcome.Unknown = Unit {0}
 
--- fewer than 2^23 arc numbers below 4096
+-- fewer than 2^28 arc numbers below 4096
 pub record AreArcs (arcs : List ℕ) : Type 0 where
-  pub few : length arcs < 2 ^ 23
+  pub few : length arcs < 2 ^ 28
   pub small : (i : ℕ) → i < length arcs → slice_index arcs i < 4096
 
 -- arcs stand in a section of a path alone

@@ -238,7 +238,7 @@ fn check_low<T: LabelTable, H: Guide>(
 /// Goes along the arcs from the start, as far as they are free. Answers the state where they end and their summed cost.
 fn walk<G: Graph>(graph: &G, start: u32, arcs: &[u32]) -> Result<(u32, u64), Flaw>
     requires start { start < (G.network graph.now).states }
-    requires few { length arcs.now < 2 ^ 23 }
+    requires few { length arcs.now < 2 ^ 28 }
     ensures walk { MatchResult result (λ x. IsFreePath (G.network graph.now) start arcs.now x.0 x.1)
         (IsStepFlaw (G.network graph.now) start arcs.now) }
 {
@@ -299,7 +299,7 @@ fn check_path<G: Graph>(
     bound: u128,
 ) -> Result<(), Flaw>
     requires start { start < (G.network graph.now).states }
-    requires few { length arcs.now < 2 ^ 23 }
+    requires few { length arcs.now < 2 ^ 28 }
     ensures path { MatchResult result (λ _. IsFreePath (G.network graph.now) start arcs.now goal cost × IsBound cost low bound)
         (IsPathFlaw (G.network graph.now) start goal arcs.now cost low bound) }
 {

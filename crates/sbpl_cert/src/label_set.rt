@@ -24,7 +24,7 @@ pub struct LabelSet {
     pub low: u64,
     /// What the plan answered.
     pub outcome: Outcome,
-    /// The arc numbers of a path from the start: fewer than 2^23, each below 4096.
+    /// The arc numbers of a path from the start: fewer than 2^28, each below 4096.
     pub arcs: Arcs,
     /// The labels of each state in order.
     pub labels: Rows,

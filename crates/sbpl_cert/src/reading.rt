@@ -39,7 +39,7 @@ const LABEL_END: u64 = 1 << 62;
 const GUIDE_END: u64 = 1 << 55;
 
 /// Every number of arcs is below this.
-const ARCS_END: u64 = 1 << 23;
+const ARCS_END: u64 = 1 << 28;
 
 /// Every arc number is below this.
 const ARC_END: u64 = 4096;

@@ -27,7 +27,7 @@ pub struct SparseSet {
     pub low: u64,
     /// What the plan answered.
     pub outcome: Outcome,
-    /// The arc numbers of a path from the start: fewer than 2^23, each below 4096.
+    /// The arc numbers of a path from the start: fewer than 2^28, each below 4096.
     pub arcs: Arcs,
     /// The labels of some of the states, whose numbers go upwards and are below `states`.
     pub rows: SparseRows,

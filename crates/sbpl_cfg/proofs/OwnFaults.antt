@@ -37,27 +37,27 @@ pose_spares : (w : List ℕ) → Spares NoMemory (pose_format w)
 unfolding Spares pose_format
 pose_spares w = λ _ _ _ _ _ _ _ _. tt
 
-extent_spares : Spares NoMemory extent_format
+extent_spares : (states : ℕ) → Spares NoMemory (extent_format states)
 unfolding Spares extent_format
-extent_spares = λ _ _ _ _ _ _. tt
+extent_spares states = λ _ _ _ _ _ _. tt
 
 headings_spare : (said : Bool) → Spares NoMemory (headings_format said)
 unfolding Spares headings_format
 headings_spare true = whole_spares _ _ _
 headings_spare false = tt
 
-size_spares : (said : Bool) → Spares NoMemory (size_format said)
+size_spares : (states : ℕ) (said : Bool) → Spares NoMemory (size_format states said)
 unfolding size_format
-size_spares said =
-    and_then_spares NoMemory extent_format _ extent_spares (λ x.
+size_spares states said =
+    and_then_spares NoMemory (extent_format states) _ (extent_spares states) (λ x.
     and_then_spares NoMemory (headings_format said) _ (headings_spare said) (λ _.
     wrong_spares NoMemory _ (TooLarge x.place) (done _) (λ q. cc) (done_spares NoMemory _)))
 
-header_spares : (said : Bool) → Spares NoMemory (header_format said)
+header_spares : (states : ℕ) (said : Bool) → Spares NoMemory (header_format states said)
 unfolding header_format thresholds_format rates_format obsthresh_format inscribed_format circumscribed_format
     cell_format speed_format turn45_format
-header_spares said =
-    and_then_spares NoMemory (size_format said) _ (size_spares said) (λ _.
+header_spares states said =
+    and_then_spares NoMemory (size_format states said) _ (size_spares states said) (λ _.
     and_then_spares NoMemory thresholds_format _
     (and_then_spares NoMemory obsthresh_format _ (whole_spares _ _ _)
     (λ _. and_then_spares NoMemory inscribed_format _ (whole_spares _ _ _)
@@ -85,14 +85,14 @@ grid_spares : (count : ℕ) → Spares NoMemory (grid_format count)
 unfolding Spares grid_format
 grid_spares count = λ _ _. turns_spare NoMemory count cost_format [] cost_spares
 
-environment_spares : (said : Bool) → Spares NoMemory (environment_format said)
+environment_spares : (states : ℕ) (said : Bool) → Spares NoMemory (environment_format states said)
 unfolding Spares environment_format numbers_format
-environment_spares said =
-    and_then_spares NoMemory (numbers_format said) _ (and_then_spares NoMemory (header_format said) _
-    (header_spares said) (λ h. and_then_spares NoMemory (ends_format h) _ (ends_spare h) (λ _. tt))) (λ e.
+environment_spares states said =
+    and_then_spares NoMemory (numbers_format states said) _ (and_then_spares NoMemory (header_format states said) _
+    (header_spares states said) (λ h. and_then_spares NoMemory (ends_format h) _ (ends_spare h) (λ _. tt))) (λ e.
     and_then_spares NoMemory (grid_format _) _ (grid_spares _) (λ _. tt))
 
-pub no_memory_is_no_fault : (text : List ℕ) (f : EnvFault) → HasFault text f → f ≢ NoMemory
-no_memory_is_no_fault text f h =
-    spared NoMemory told (environment_format (says_headings text)) (length text) (tokens text) f told_spares
-    (environment_spares (says_headings text)) h
+pub no_memory_is_no_fault : (states : ℕ) (text : List ℕ) (f : EnvFault) → HasFault states text f → f ≢ NoMemory
+no_memory_is_no_fault states text f h =
+    spared NoMemory told (environment_format states (says_headings text)) (length text) (tokens text) f told_spares
+    (environment_spares states (says_headings text)) h

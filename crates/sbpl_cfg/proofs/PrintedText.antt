@@ -16,7 +16,7 @@ use Rattle.sbpl_fixed.specs.ReadBack.{IsWord}
 use Rattle.sbpl_fixed.specs.Tokens.{Piece, is_blank, is_filled, tokens_past}
 use Rattle.sbpl_fixed.proofs.ReadBack.{blanks_part_tokens, nanos_are_read_back, nanos_are_words}
 use Rattle.sbpl_fixed.proofs.ReadBack.{wholes_are_read_back, wholes_are_words, words_are_tokens}
-use Rattle.sbpl_cfg.specs.Environment.{Environment, IsEnvironment, IsHeadingCount, IsWithin, usual_headings}
+use Rattle.sbpl_cfg.specs.Environment.{Environment, IsEnvironment, IsHeadingCount, IsWithin, state_count, usual_headings}
 use Rattle.sbpl_cfg.specs.Format.{headings_word}
 use Rattle.sbpl_cfg.specs.Printed.{end_lines, environment_text, grid_lines, rate_lines, size_lines, threshold_lines}
 use Rattle.sbpl_cfg.specs.Text.{AllMean, AreTokensOf, IsGrid, IsTextOf, Said, number, spelled_ends, spelled_grid}
@@ -153,7 +153,7 @@ shows_coordinate : (z : ℤ) → IsWithin (negsuc 999999999999999999) (pos 10000
     → Shows z (nano_text z) nano_of
 shows_coordinate z w = shows_nano z (at_most 999999999999999999 1000000000000000000 z (lit< tt) (lit≤ tt) w)
 
-shows_natural : (n : ℕ) → n ≤ 8388608 → Shows (pos n) (decimal n) whole_of
+shows_natural : (n : ℕ) → n ≤ 268435456 → Shows (pos n) (decimal n) whole_of
 shows_natural n h = shows_whole (pos n) (omega arith)
 
 -- the lines after that of the number of headings
@@ -275,9 +275,9 @@ tokens_are_printed false e cells is few size others =
     (spelled_headings e.headings ++ last_spelled e cells) (size_lines e) _ size
     (saying_append (spelled_headings e.headings) (last_spelled e cells) _ (last_lines e cells) line others)))
 
-pub environment_is_printed : (e : Environment) (cells : List ℕ) → IsEnvironment e → IsGrid e cells
-    → IsTextOf (environment_text e cells) e cells
-environment_is_printed e cells k g =
+pub environment_is_printed : (states : ℕ) (e : Environment) (cells : List ℕ) → state_count e ≤ states → IsEnvironment e
+    → IsGrid e cells → IsTextOf states (environment_text e cells) e cells
+environment_is_printed states e cells few k g =
     let width = shows_natural e.width k.width.1 in
     let height = shows_natural e.height k.height.1 in
     let size : AreSaying (spelled_size e) (size_lines e) = record {
@@ -292,5 +292,6 @@ environment_is_printed e cells k g =
           tokens_are_printed (e.headings == usual_headings) e cells
           (eqb-true e.headings usual_headings) k.headings size last;
       environment = k;
+      few = few;
       grid = g;
     }

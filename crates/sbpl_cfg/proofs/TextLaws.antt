@@ -6,6 +6,7 @@ use Rattle.std.specs.Prelude.{bytes_eq, int_le, int_lt, nat_abs}
 use Rattle.std.specs.List.{AllByRecursion}
 use Rattle.std.proofs.lemmas.Bool.{and_from, and_parts, ltb-false, le-ltb}
 use Rattle.std.proofs.lemmas.Int.{ints}
+use Rattle.std.proofs.Math.Nat.{le_trans, mul_comm, mul-le-mul_left}
 use Rattle.sbpl_fixed.specs.Formats.{Says, turns}
 use Rattle.sbpl_fixed.specs.Numbers.{nano_of, whole_of}
 use Rattle.sbpl_fixed.specs.Tokens.{Piece}
@@ -18,7 +19,7 @@ use Rattle.sbpl_cfg.specs.declared.parts.Rates.{Rates}
 use Rattle.sbpl_cfg.specs.declared.parts.Size.{Size}
 use Rattle.sbpl_cfg.specs.declared.parts.Thresholds.{Thresholds}
 use Rattle.sbpl_cfg.specs.Environment.{Environment, IsEnvironment, IsHeadingCount, IsOnAxis, IsPoseInRange}
-use Rattle.sbpl_cfg.specs.Environment.{IsWithin, is_on_axis, usual_headings}
+use Rattle.sbpl_cfg.specs.Environment.{IsWithin, is_on_axis, state_count, usual_headings}
 use Rattle.sbpl_cfg.specs.Place.{cell_of}
 use Rattle.sbpl_cfg.specs.Format.{whole_format, nano_format, extent_format, headings_format, size_format}
 use Rattle.sbpl_cfg.specs.Format.{obsthresh_format, inscribed_format, circumscribed_format}
@@ -93,22 +94,22 @@ within_naturals low high n h k = (omega (arith, ints), omega (arith, ints))
 naturals_within : (low high n : ℕ) → IsWithin (pos low) (pos high) (pos n) → (low ≤ n) × (n ≤ high)
 naturals_within low high n h = let low = h.0 in let high = h.1 in (omega (arith, ints), omega (arith, ints))
 
-pub record IsExtent (x : Extent) : Type 0 where
-  pub width : (1 ≤ x.width) × (x.width ≤ 8388608)
-  pub height : (1 ≤ x.height) × (x.height ≤ 8388608)
+pub record IsExtent (states : ℕ) (x : Extent) : Type 0 where
+  pub width : (1 ≤ x.width) × (x.width ≤ states)
+  pub height : (1 ≤ x.height) × (x.height ≤ states)
 
 abbrev pub extent_words : Extent → List Said
 extent_words x = word (codes "discretization(cells):") ∷ number (pos x.width) ∷ number (pos x.height) ∷ []
 
-pub extent_said : (p : Placed Extent) (ts rest : List Piece) → Says extent_format ts p rest
-    → Begins (extent_words p.value) ts rest × IsExtent p.value
+pub extent_said : (states : ℕ) (p : Placed Extent) (ts rest : List Piece) → Says (extent_format states) ts p rest
+    → Begins (extent_words p.value) ts rest × IsExtent states p.value
 unfolding extent_format Says
-extent_said p [] rest h = absurd h
-extent_said p (t ∷ []) rest h = absurd h.2
-extent_said p (t ∷ u ∷ []) rest h = absurd h.2.2
-extent_said p (t ∷ u ∷ v ∷ ts) rest h =
-    let w = within_is (pos 1) (pos 8388608) h.2.0 (whole_of u.bytes) h.2.1 in
-    let r = within_is (pos 1) (pos 8388608) h.2.2.0 (whole_of v.bytes) h.2.2.1 in
+extent_said states p [] rest h = absurd h
+extent_said states p (t ∷ []) rest h = absurd h.2
+extent_said states p (t ∷ u ∷ []) rest h = absurd h.2.2
+extent_said states p (t ∷ u ∷ v ∷ ts) rest h =
+    let w = within_is (pos 1) (pos states) h.2.0 (whole_of u.bytes) h.2.1 in
+    let r = within_is (pos 1) (pos states) h.2.2.0 (whole_of v.bytes) h.2.2.1 in
     let g = h.2.2.2 in
     let width : h.2.0 ≡ pos p.value.width =
     natural_is 1 h.2.0 w.between.0 ∙ ap (λ (y : Placed Extent). pos y.value.width) (sym g.0) in
@@ -116,30 +117,30 @@ extent_said p (t ∷ u ∷ v ∷ ts) rest h =
     natural_is 1 h.2.2.0 r.between.0 ∙ ap (λ (y : Placed Extent). pos y.value.height) (sym g.0) in (
       (fixed_is _ t.bytes h.0 h.1, (w.value ∙ ap (λ z. Ok z) width, (r.value ∙ ap (λ z. Ok z) height, g.1))),
       record {
-        width = naturals_within 1 8388608 p.value.width (subst (IsWithin (pos 1) (pos 8388608)) width w.between);
-        height = naturals_within 1 8388608 p.value.height (subst (IsWithin (pos 1) (pos 8388608)) height r.between);
+        width = naturals_within 1 states p.value.width (subst (IsWithin (pos 1) (pos states)) width w.between);
+        height = naturals_within 1 states p.value.height (subst (IsWithin (pos 1) (pos states)) height r.between);
       },
     )
 
-pub says_extent : (x : Extent) (ts rest : List Piece) → Begins (extent_words x) ts rest → IsExtent x
-    → (place : ℕ) × Says extent_format ts (record { value = x; place = place }) rest
+pub says_extent : (states : ℕ) (x : Extent) (ts rest : List Piece) → Begins (extent_words x) ts rest
+    → IsExtent states x → (place : ℕ) × Says (extent_format states) ts (record { value = x; place = place }) rest
 unfolding extent_format Says
-says_extent x [] rest h k = absurd h
-says_extent x (t ∷ []) rest h k = absurd h.1
-says_extent x (t ∷ u ∷ []) rest h k = absurd h.1.1
-says_extent x (t ∷ u ∷ v ∷ ts) rest h k = (
+says_extent states x [] rest h k = absurd h
+says_extent states x (t ∷ []) rest h k = absurd h.1
+says_extent states x (t ∷ u ∷ []) rest h k = absurd h.1.1
+says_extent states x (t ∷ u ∷ v ∷ ts) rest h k = (
   u.place,
   (
     pos 0,
     is_fixed _ t.bytes h.0,
     (
       pos x.width,
-      is_within (pos 1) (pos 8388608) (pos x.width) (whole_of u.bytes)
-          (record { value = h.1.0; between = within_naturals 1 8388608 x.width k.width.0 k.width.1 }),
+      is_within (pos 1) (pos states) (pos x.width) (whole_of u.bytes)
+          (record { value = h.1.0; between = within_naturals 1 states x.width k.width.0 k.width.1 }),
       (
         pos x.height,
-        is_within (pos 1) (pos 8388608) (pos x.height) (whole_of v.bytes)
-            (record { value = h.1.1.0; between = within_naturals 1 8388608 x.height k.height.0 k.height.1 }),
+        is_within (pos 1) (pos states) (pos x.height) (whole_of v.bytes)
+            (record { value = h.1.1.0; between = within_naturals 1 states x.height k.height.0 k.height.1 }),
         (refl, h.1.1.1),
       ),
     ),
@@ -179,11 +180,11 @@ says_count true n ts rest h k =
     says_whole headings_word (pos 4) (pos 64) (pos n) ts rest h (within_naturals 4 64 n k.count.0 k.count.1)
 says_count false n ts rest h k = (ap pos (k.usual refl), h)
 
-pub record IsSize (said : Bool) (x : Size) : Type 0 where
-  pub width : (1 ≤ x.width) × (x.width ≤ 8388608)
-  pub height : (1 ≤ x.height) × (x.height ≤ 8388608)
+pub record IsSize (states : ℕ) (said : Bool) (x : Size) : Type 0 where
+  pub width : (1 ≤ x.width) × (x.width ≤ states)
+  pub height : (1 ≤ x.height) × (x.height ≤ states)
   pub headings : IsCount said x.headings
-  pub states : x.width * x.height * x.headings ≤ 8388608
+  pub few : x.width * x.height * x.headings ≤ states
 
 abbrev pub extent_of : Size → Extent
 extent_of x = record { width = x.width; height = x.height }
@@ -191,31 +192,31 @@ extent_of x = record { width = x.width; height = x.height }
 abbrev pub size_words : Bool → Size → List Said
 size_words said x = extent_words (extent_of x) ++ headings_words said x.headings
 
-pub size_said : (said : Bool) (x : Size) (ts rest : List Piece) → Says (size_format said) ts x rest
-    → Begins (size_words said x) ts rest × IsSize said x
+pub size_said : (states : ℕ) (said : Bool) (x : Size) (ts rest : List Piece) → Says (size_format states said) ts x rest
+    → Begins (size_words said x) ts rest × IsSize states said x
 unfolding size_format
-size_said said x ts rest s =
+size_said states said x ts rest s =
     let a = says_parts _ _ ts rest x s in
     let b = says_parts _ _ a.1 rest x a.3 in
-    let e = extent_said a.0 ts a.1 a.2 in
+    let e = extent_said states a.0 ts a.1 a.2 in
     let n = headings_said said b.0 a.1 b.1 b.2 in
     let g = unless_wrong _ _ x _ b.1 rest b.3 in
     let made : Size = record { width = a.0.value.width; height = a.0.value.height; headings = nat_abs b.0 } in
     let begins : Begins (size_words said made) ts rest =
     begins_append (extent_words (extent_of made)) (headings_words said made.headings) ts a.1 rest e.0
     (subst (λ m. Begins (headings_words said made.headings) a.1 m) (sym g.2) n.0) in
-    let is : IsSize said made =
-    record { width = e.1.width; height = e.1.height; headings = n.1; states = ltb-false _ _ g.0 } in
-    (subst (λ (y : Size). Begins (size_words said y) ts rest) (sym g.1) begins, subst (IsSize said) (sym g.1) is)
+    let is : IsSize states said made =
+    record { width = e.1.width; height = e.1.height; headings = n.1; few = ltb-false _ _ g.0 } in
+    (subst (λ (y : Size). Begins (size_words said y) ts rest) (sym g.1) begins, subst (IsSize states said) (sym g.1) is)
 
-pub says_size : (said : Bool) (x : Size) (ts rest : List Piece) → Begins (size_words said x) ts rest → IsSize said x
-    → Says (size_format said) ts x rest
+pub says_size : (states : ℕ) (said : Bool) (x : Size) (ts rest : List Piece) → Begins (size_words said x) ts rest
+    → IsSize states said x → Says (size_format states said) ts x rest
 unfolding size_format Says
-says_size said x ts rest h k =
+says_size states said x ts rest h k =
     let a = append_begins (extent_words (extent_of x)) (headings_words said x.headings) ts rest h in
-    let e = says_extent (extent_of x) ts a.0 a.1 (record { width = k.width; height = k.height }) in
-    let small : ltb 8388608 (x.width * x.height * x.headings) ≡ false = le-ltb _ _ k.states in
-    says_both extent_format _ ts a.0 rest (record { value = extent_of x; place = e.0 }) x e.1
+    let e = says_extent states (extent_of x) ts a.0 a.1 (record { width = k.width; height = k.height }) in
+    let small : ltb states (x.width * x.height * x.headings) ≡ false = le-ltb _ _ k.few in
+    says_both (extent_format states) _ ts a.0 rest (record { value = extent_of x; place = e.0 }) x e.1
     (says_both (headings_format said) _ a.0 rest rest (pos x.headings) x
     (says_count said x.headings a.0 rest a.2 k.headings) (rw small (refl, refl)))
 
@@ -486,20 +487,25 @@ says_ends h x ts rest s good fine =
 abbrev pub header_words : Bool → Header → List Said
 header_words said h = size_words said h.size ++ (thresholds_words h.thresholds ++ rates_words h.rates)
 
-pub header_said : (said : Bool) (h : Header) (ts rest : List Piece) → Says (header_format said) ts h rest
-    → Begins (header_words said h) ts rest × IsHeaderInRange h × IsCount said h.size.headings
+-- how many states there are by a header
+abbrev pub header_count : Header → ℕ
+header_count h = h.size.width * h.size.height * h.size.headings
+
+pub header_said : (states : ℕ) (said : Bool) (h : Header) (ts rest : List Piece) → states ≤ 268435456
+    → Says (header_format states said) ts h rest
+    → Begins (header_words said h) ts rest × IsHeaderInRange h × (header_count h ≤ states) × IsCount said h.size.headings
 unfolding header_format Says
-header_said said h ts rest s =
+header_said states said h ts rest small s =
     let a = says_parts _ _ ts rest h s in
     let b = says_parts _ _ a.1 rest h a.3 in
     let c = says_parts _ _ b.1 rest h b.3 in
-    let p = size_said said a.0 ts a.1 a.2 in
+    let p = size_said states said a.0 ts a.1 a.2 in
     let q = thresholds_said b.0 a.1 b.1 b.2 in
     let r = rates_said c.0 b.1 c.1 c.2 in
     let size : a.0 ≡ h.size = ap (λ (y : Header). y.size) (sym c.3.0) in
     let thresholds : b.0 ≡ h.thresholds = ap (λ (y : Header). y.thresholds) (sym c.3.0) in
     let rates : c.0 ≡ h.rates = ap (λ (y : Header). y.rates) (sym c.3.0) in
-    let is_size = subst (IsSize said) size p.1 in
+    let is_size = subst (IsSize states said) size p.1 in
     let are_thresholds = subst AreThresholds thresholds q.1 in
     let are_rates = subst AreRates rates r.1 in (
       begins_append (size_words said h.size) (thresholds_words h.thresholds ++ rates_words h.rates) ts a.1 rest
@@ -509,10 +515,10 @@ header_said said h ts rest s =
           (subst (λ m. Begins (rates_words h.rates) b.1 m) (sym c.3.1)
           (subst (λ x. Begins (rates_words x) b.1 c.1) rates r.0))),
       record {
-        width = is_size.width;
-        height = is_size.height;
+        width = (is_size.width.0, omega (arith, is_size.width.1, small));
+        height = (is_size.height.0, omega (arith, is_size.height.1, small));
         headings = is_size.headings.count;
-        states = is_size.states;
+        states = le_trans is_size.few small;
         obsthresh = are_thresholds.obsthresh;
         inscribed = are_thresholds.inscribed;
         circumscribed = are_thresholds.circumscribed;
@@ -520,18 +526,35 @@ header_said said h ts rest s =
         speed = are_rates.speed;
         turn45 = are_rates.turn45;
       },
+      is_size.few,
       is_size.headings,
     )
 
-pub says_header : (said : Bool) (h : Header) (ts rest : List Piece) → Begins (header_words said h) ts rest
-    → IsHeaderInRange h → IsCount said h.size.headings
-    → Says (header_format said) ts h rest
+-- a side of a map is not longer than all its states
+side_le : (w h n states : ℕ) → 1 ≤ h → 4 ≤ n → w * h * n ≤ states → w ≤ states
+side_le w h n states some few small =
+    let one : w * 1 ≤ w * h = mul-le-mul_left w some in
+    let all : w * h * 1 ≤ w * h * n = mul-le-mul_left (w * h) (omega (arith, few)) in
+    omega arith
+
+pub says_header : (states : ℕ) (said : Bool) (h : Header) (ts rest : List Piece) → Begins (header_words said h) ts rest
+    → IsHeaderInRange h → header_count h ≤ states → IsCount said h.size.headings
+    → Says (header_format states said) ts h rest
 unfolding header_format Says
-says_header said h ts rest s k n =
+says_header states said h ts rest s k few n =
     let a = append_begins (size_words said h.size) (thresholds_words h.thresholds ++ rates_words h.rates) ts rest s in
     let b = append_begins (thresholds_words h.thresholds) (rates_words h.rates) a.0 rest a.2 in
-    says_both (size_format said) _ ts a.0 rest h.size h
-    (says_size said h.size ts a.0 a.1 (record { width = k.width; height = k.height; headings = n; states = k.states }))
+    says_both (size_format states said) _ ts a.0 rest h.size h
+    (says_size states said h.size ts a.0 a.1 (record {
+      width = (k.width.0, side_le h.size.width h.size.height h.size.headings states k.height.0 k.headings.0 few);
+      height = (
+        k.height.0,
+        side_le h.size.height h.size.width h.size.headings states k.width.0 k.headings.0
+            (rw (mul_comm h.size.height h.size.width) few),
+      );
+      headings = n;
+      few = few;
+    }))
     (says_both thresholds_format _ a.0 b.0 rest h.thresholds h
     (says_thresholds h.thresholds a.0 b.0 b.1
     (record { obsthresh = k.obsthresh; inscribed = k.inscribed; circumscribed = k.circumscribed }))
@@ -600,27 +623,29 @@ ends_of e = record { start = e.start; end = e.end }
 abbrev pub numbers_words : Bool → Environment → List Said
 numbers_words said e = header_words said (header_of e) ++ ends_words (ends_of e)
 
-pub numbers_said : (said : Bool) (e : Environment) (ts rest : List Piece) → Says (numbers_format said) ts e rest
-    → Begins (numbers_words said e) ts rest × IsEnvironment e × IsCount said e.headings
+pub numbers_said : (states : ℕ) (said : Bool) (e : Environment) (ts rest : List Piece) → states ≤ 268435456
+    → Says (numbers_format states said) ts e rest
+    → Begins (numbers_words said e) ts rest × IsEnvironment e × (state_count e ≤ states) × IsCount said e.headings
 unfolding numbers_format Says
-numbers_said said e ts rest s =
+numbers_said states said e ts rest small s =
     let a = says_parts _ _ ts rest e s in
     let b = says_parts _ _ a.1 rest e a.3 in
-    let p = header_said said a.0 ts a.1 a.2 in
+    let p = header_said states said a.0 ts a.1 small a.2 in
     let q = ends_said a.0 b.0 a.1 b.1 b.2 in
     let same : environment_of a.0 b.0 ≡ e = sym b.3.0 in (
       subst (λ (x : Environment). Begins (numbers_words said x) ts rest) same
           (begins_append (header_words said a.0) (ends_words b.0) ts a.1 rest p.0
           (subst (λ m. Begins (ends_words b.0) a.1 m) (sym b.3.1) q.0)),
       subst IsEnvironment same (environment_is a.0 b.0 p.1 q.1 q.2),
-      subst (λ (x : Environment). IsCount said x.headings) same p.2,
+      subst (λ (x : Environment). state_count x ≤ states) same p.2,
+      subst (λ (x : Environment). IsCount said x.headings) same p.3,
     )
 
-pub says_numbers : (said : Bool) (e : Environment) (ts rest : List Piece) → Begins (numbers_words said e) ts rest
-    → IsEnvironment e → IsCount said e.headings
-    → Says (numbers_format said) ts e rest
+pub says_numbers : (states : ℕ) (said : Bool) (e : Environment) (ts rest : List Piece)
+    → Begins (numbers_words said e) ts rest → IsEnvironment e → state_count e ≤ states → IsCount said e.headings
+    → Says (numbers_format states said) ts e rest
 unfolding numbers_format Says
-says_numbers said e ts rest s k n =
+says_numbers states said e ts rest s k few n =
     let a = append_begins (header_words said (header_of e)) (ends_words (ends_of e)) ts rest s in
     let in_range : IsHeaderInRange (header_of e) = record {
       width = k.width;
@@ -646,7 +671,8 @@ says_numbers said e ts rest s k n =
           and_from (is_on_axis e.cell e.width e.end.x) (is_on_axis e.cell e.height e.end.y)
           (is_on e.cell e.end.x e.width k.end_on_map.x) (is_on e.cell e.end.y e.height k.end_on_map.y);
     } in
-    says_both (header_format said) _ ts a.0 rest (header_of e) e (says_header said (header_of e) ts a.0 a.1 in_range n)
+    says_both (header_format states said) _ ts a.0 rest (header_of e) e
+    (says_header states said (header_of e) ts a.0 a.1 in_range few n)
     (says_both (ends_format (header_of e)) _ a.0 rest rest (ends_of e) e
     (says_ends (header_of e) (ends_of e) a.0 rest a.2 start end) (refl, refl))
 
@@ -784,46 +810,48 @@ said_by_fourth false e cells (t ∷ u ∷ []) h = absurd h.1.1
 said_by_fourth false e cells (t ∷ u ∷ v ∷ []) h = absurd h.1.1.1
 said_by_fourth false e cells (t ∷ u ∷ v ∷ w ∷ ts) h = ap (λ bytes. bytes_eq bytes headings_word) h.1.1.1.0
 
-pub text_said : (text : List ℕ) (x : Environment × List ℕ)
-    → StandsFor (environment_format (says_headings text)) text x → IsTextOf text x.0 x.1
+pub text_said : (states : ℕ) (text : List ℕ) (x : Environment × List ℕ) → states ≤ 268435456
+    → StandsFor (environment_format states (says_headings text)) text x → IsTextOf states text x.0 x.1
 unfolding environment_format
-text_said text x h =
+text_said states text x small h =
     let said = says_headings text in
     let a = says_parts _ _ (tokens text) h.0 x h.1 in
     let b = says_parts _ _ a.1 h.0 x a.3 in
     let z = at_end _ _ x (a.0, b.0) b.1 h.0 b.3 in
-    let p = numbers_said said a.0 (tokens text) a.1 a.2 in
+    let p = numbers_said states said a.0 (tokens text) a.1 small a.2 in
     let q = grid_said (a.0.width * a.0.height) b.0 a.1 b.1 b.2 in
     let all =
     begins_append (numbers_words said a.0) (spelled_grid b.0) (tokens text) a.1 [] p.0
     (subst (λ m. Begins (spelled_grid b.0) a.1 m) z.1 q.0) in
-    subst (λ (y : Environment × List ℕ). IsTextOf text y.0 y.1) (sym z.0) (record {
-      tokens = are_tokens said a.0 b.0 (tokens text) p.2 all;
+    subst (λ (y : Environment × List ℕ). IsTextOf states text y.0 y.1) (sym z.0) (record {
+      tokens = are_tokens said a.0 b.0 (tokens text) p.3 all;
       environment = p.1;
+      few = p.2;
       grid = record { size = q.1; costs = q.2 };
     })
 
 -- tokens that are those of an environment and a grid are what the format says that has these words
-says_file : (said : Bool) (text : List ℕ) (x : Environment × List ℕ) → Begins (file_words said x.0 x.1) (tokens text) []
-    → IsCount said x.0.headings
-    → IsEnvironment x.0 → IsGrid x.0 x.1 → StandsFor (environment_format said) text x
+says_file : (states : ℕ) (said : Bool) (text : List ℕ) (x : Environment × List ℕ)
+    → Begins (file_words said x.0 x.1) (tokens text) [] → IsCount said x.0.headings
+    → IsEnvironment x.0 → state_count x.0 ≤ states → IsGrid x.0 x.1 → StandsFor (environment_format states said) text x
 unfolding environment_format Says
-says_file said text x all n e g =
+says_file states said text x all n e few g =
     let a = append_begins (numbers_words said x.0) (spelled_grid x.1) (tokens text) [] all in (
       [],
-      says_both (numbers_format said) _ (tokens text) a.0 [] x.0 x (says_numbers said x.0 (tokens text) a.0 a.1 e n)
+      says_both (numbers_format states said) _ (tokens text) a.0 [] x.0 x
+          (says_numbers states said x.0 (tokens text) a.0 a.1 e few n)
           (says_both (grid_format (x.0.width * x.0.height)) _ a.0 [] [] x.1 x
           (says_grid (x.0.width * x.0.height) x.1 a.0 [] a.2 g.size g.costs) (refl, refl)),
     )
 
-pub says_text : (text : List ℕ) (x : Environment × List ℕ) → IsTextOf text x.0 x.1
-    → StandsFor (environment_format (says_headings text)) text x
-says_text text x h =
+pub says_text : (states : ℕ) (text : List ℕ) (x : Environment × List ℕ) → IsTextOf states text x.0 x.1
+    → StandsFor (environment_format states (says_headings text)) text x
+says_text states text x h =
     let by : (said : Bool) → Begins (file_words said x.0 x.1) (tokens text) [] → IsCount said x.0.headings
-    → StandsFor (environment_format (says_headings text)) text x =
+    → StandsFor (environment_format states (says_headings text)) text x =
     λ said all n.
-    subst (λ b. StandsFor (environment_format b) text x) (sym (said_by_fourth said x.0 x.1 (tokens text) all))
-    (says_file said text x all n h.environment h.grid) in
+    subst (λ b. StandsFor (environment_format states b) text x) (sym (said_by_fourth said x.0 x.1 (tokens text) all))
+    (says_file states said text x all n h.environment h.few h.grid) in
     elim h.tokens [
       | inl t ↦ by true (all_begins (spelled (spelled_headings x.0.headings) x.0 x.1) (tokens text) t)
           (record { count = h.environment.headings; usual = λ e. absurd cc })
@@ -842,17 +870,17 @@ said_by_tokens text e cells t =
     said_by_fourth true e cells (tokens text)
     (all_begins (spelled (spelled_headings e.headings) e cells) (tokens text) t)
 
-pub left_out_is_usual : (text : List ℕ) (e : Environment) (cells : List ℕ) → IsTextOf text e cells
+pub left_out_is_usual : (states : ℕ) (text : List ℕ) (e : Environment) (cells : List ℕ) → IsTextOf states text e cells
     → says_headings text ≡ false → e.headings ≡ usual_headings
-left_out_is_usual text e cells h none = elim h.tokens [
+left_out_is_usual states text e cells h none = elim h.tokens [
   | inl t ↦ let e = sym none ∙ said_by_tokens text e cells t in absurd cc
   | inr t ↦ t.0
 ]
 
-usual_said : (plain full : List ℕ) (e : Environment) (cells : List ℕ) → LeavesOutUsual plain full
-    → IsTextOf plain e cells → IsTextOf full e cells
-usual_said plain full e cells w h =
-    let usual = left_out_is_usual plain e cells h w.left_out in
+usual_said : (states : ℕ) (plain full : List ℕ) (e : Environment) (cells : List ℕ) → LeavesOutUsual plain full
+    → IsTextOf states plain e cells → IsTextOf states full e cells
+usual_said states plain full e cells w h =
+    let usual = left_out_is_usual states plain e cells h w.left_out in
     let tokens : AreTokensOf (words_of full) e cells = elim h.tokens [
       | inl t ↦ let e = sym w.left_out ∙ said_by_tokens plain e cells t in absurd cc
       | inr t ↦
@@ -860,11 +888,11 @@ usual_said plain full e cells w h =
           inl (subst (AllMean (spelled (spelled_headings e.headings) e cells)) (sym w.full_words)
           (m.0, (m.1.0, (m.1.1.0, (refl, (w.usual ∙ ap (λ n. Ok (pos n)) (sym usual), m.1.1.1))))))
     ] in
-    record { tokens = tokens; environment = h.environment; grid = h.grid }
+    record { tokens = tokens; environment = h.environment; few = h.few; grid = h.grid }
 
-usual_left_out : (plain full : List ℕ) (e : Environment) (cells : List ℕ) → LeavesOutUsual plain full
-    → IsTextOf full e cells → IsTextOf plain e cells
-usual_left_out plain full e cells w h =
+usual_left_out : (states : ℕ) (plain full : List ℕ) (e : Environment) (cells : List ℕ) → LeavesOutUsual plain full
+    → IsTextOf states full e cells → IsTextOf states plain e cells
+usual_left_out states plain full e cells w h =
     let tokens : AreTokensOf (words_of plain) e cells = elim h.tokens [
       | inl t ↦
           let m = subst (AllMean (spelled (spelled_headings e.headings) e cells)) w.full_words t in
@@ -875,8 +903,9 @@ usual_left_out plain full e cells w h =
           )
       | inr t ↦ let m = subst (AllMean (spelled [] e cells)) w.full_words t.1 in let e = m.1.1.1.0 in absurd cc
     ] in
-    record { tokens = tokens; environment = h.environment; grid = h.grid }
+    record { tokens = tokens; environment = h.environment; few = h.few; grid = h.grid }
 
-pub usual_may_be_left_out : (plain full : List ℕ) (e : Environment) (cells : List ℕ) → LeavesOutUsual plain full
-    → IsTextOf plain e cells ↔ IsTextOf full e cells
-usual_may_be_left_out plain full e cells w = (usual_said plain full e cells w, usual_left_out plain full e cells w)
+pub usual_may_be_left_out : (states : ℕ) (plain full : List ℕ) (e : Environment) (cells : List ℕ)
+    → LeavesOutUsual plain full → IsTextOf states plain e cells ↔ IsTextOf states full e cells
+usual_may_be_left_out states plain full e cells w =
+    (usual_said states plain full e cells w, usual_left_out states plain full e cells w)

@@ -52,10 +52,14 @@ pub record IsPoseOnMap (e : Environment) (p : Pose) : Type 0 where
   pub x : IsOnAxis e.cell e.width p.x
   pub y : IsOnAxis e.cell e.height p.y
 
--- each number lies in its range, there are at most 2 ^ 23 states, and both poses are on the map
+-- how many states an environment has
+abbrev pub state_count : Environment → ℕ
+state_count e = e.width * e.height * e.headings
+
+-- each number lies in its range, there are at most 2 ^ 28 states, and both poses are on the map
 pub record IsEnvironment (e : Environment) : Type 0 where
-  pub width : (1 ≤ e.width) × (e.width ≤ 8388608)
-  pub height : (1 ≤ e.height) × (e.height ≤ 8388608)
+  pub width : (1 ≤ e.width) × (e.width ≤ 268435456)
+  pub height : (1 ≤ e.height) × (e.height ≤ 268435456)
   pub obsthresh : e.obsthresh ≤ 255
   pub inscribed : e.inscribed ≤ 255
   pub circumscribed : IsWithin (negsuc 0) (pos 255) e.circumscribed
@@ -65,7 +69,7 @@ pub record IsEnvironment (e : Environment) : Type 0 where
   pub start_in_range : IsPoseInRange e.start
   pub end_in_range : IsPoseInRange e.end
   pub headings : IsHeadingCount e.headings
-  pub states : e.width * e.height * e.headings ≤ 8388608
+  pub states : e.width * e.height * e.headings ≤ 268435456
   pub start_on_map : IsPoseOnMap e e.start
   pub end_on_map : IsPoseOnMap e e.end
 

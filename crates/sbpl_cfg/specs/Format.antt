@@ -37,10 +37,10 @@ is_on_map_of h p = is_on_map h.rates.cell h.size.width h.size.height p
 
 -- the numbers of a header lie in their ranges
 pub record IsHeaderInRange (h : Header) : Type 0 where
-  pub width : (1 ≤ h.size.width) × (h.size.width ≤ 8388608)
-  pub height : (1 ≤ h.size.height) × (h.size.height ≤ 8388608)
+  pub width : (1 ≤ h.size.width) × (h.size.width ≤ 268435456)
+  pub height : (1 ≤ h.size.height) × (h.size.height ≤ 268435456)
   pub headings : IsHeadingCount h.size.headings
-  pub states : h.size.width * h.size.height * h.size.headings ≤ 8388608
+  pub states : h.size.width * h.size.height * h.size.headings ≤ 268435456
   pub obsthresh : h.thresholds.obsthresh ≤ 255
   pub inscribed : h.thresholds.inscribed ≤ 255
   pub circumscribed : IsWithin (negsuc 0) (pos 255) h.thresholds.circumscribed
@@ -74,12 +74,12 @@ whole_format word low high = item (fixed word) (λ _ _. item (whole low high) (�
 unfoldable pub nano_format : List ℕ → ℤ → ℤ → Format EnvFault ℤ
 nano_format word low high = item (fixed word) (λ _ _. item (nano low high) (λ _ n. done n))
 
--- cells along x and along y, with the offset of the width
-unfoldable pub extent_format : Format EnvFault (Placed Extent)
-extent_format =
+-- cells along x and along y, with the offset of the width; `states` is the limit
+unfoldable pub extent_format : (states : ℕ) → Format EnvFault (Placed Extent)
+extent_format states =
     item (fixed (codes "discretization(cells):")) (λ _ _.
-    item (whole (pos 1) (pos 8388608)) (λ place width.
-    item (whole (pos 1) (pos 8388608)) (λ _ height.
+    item (whole (pos 1) (pos states)) (λ place width.
+    item (whole (pos 1) (pos states)) (λ _ height.
     done (record { value = record { width = nat_abs width; height = nat_abs height }; place = place }))))
 
 -- the number of headings, where the file says it
@@ -87,11 +87,11 @@ unfoldable pub headings_format : Bool → Format EnvFault ℤ
 headings_format said = if said then whole_format headings_word (pos 4) (pos 64) else done (pos usual_headings)
 
 -- the lattice's size; its fault, where there are too many states, is at the width
-unfoldable pub size_format : Bool → Format EnvFault Size
-size_format said =
-    and_then extent_format (λ extent.
+unfoldable pub size_format : (states : ℕ) → Bool → Format EnvFault Size
+size_format states said =
+    and_then (extent_format states) (λ extent.
     and_then (headings_format said) (λ headings.
-    if nat_lt 8388608 (extent.value.width * extent.value.height * nat_abs headings) then wrong (TooLarge extent.place)
+    if nat_lt states (extent.value.width * extent.value.height * nat_abs headings) then wrong (TooLarge extent.place)
     else done (record { width = extent.value.width; height = extent.value.height; headings = nat_abs headings })))
 
 unfoldable pub obsthresh_format : Format EnvFault ℤ
@@ -156,9 +156,9 @@ unfoldable pub end_format : Header → Format EnvFault Pose
 end_format h = and_then end_pose_format (λ p. if is_on_map_of h p.value then done p.value else wrong (EndOff p.place))
 
 -- all but the poses and the costs
-unfoldable pub header_format : Bool → Format EnvFault Header
-header_format said =
-    and_then (size_format said) (λ size.
+unfoldable pub header_format : (states : ℕ) → Bool → Format EnvFault Header
+header_format states said =
+    and_then (size_format states said) (λ size.
     and_then thresholds_format (λ thresholds.
     and_then rates_format (λ rates.
     done (record { size = size; thresholds = thresholds; rates = rates }))))
@@ -170,8 +170,9 @@ ends_format h =
     done (record { start = start; end = end })))
 
 -- all numbers but the costs
-unfoldable pub numbers_format : Bool → Format EnvFault Environment
-numbers_format said = and_then (header_format said) (λ h. and_then (ends_format h) (λ ends. done (environment_of h ends)))
+unfoldable pub numbers_format : (states : ℕ) → Bool → Format EnvFault Environment
+numbers_format states said =
+    and_then (header_format states said) (λ h. and_then (ends_format h) (λ ends. done (environment_of h ends)))
 
 -- one more cost
 unfoldable pub cost_format : List ℕ → Format EnvFault (List ℕ)
@@ -181,9 +182,9 @@ cost_format cells = item (whole (pos 0) (pos 255)) (λ _ cost. done (cells ++ na
 unfoldable pub grid_format : ℕ → Format EnvFault (List ℕ)
 grid_format count = item (fixed (codes "environment:")) (λ _ _. turns count cost_format [])
 
--- the whole file, with the number of headings or without it
-unfoldable pub environment_format : Bool → Format EnvFault (Environment × List ℕ)
-environment_format said =
-    and_then (numbers_format said) (λ e.
+-- the whole file, with the number of headings or without it, where there may be this many states
+unfoldable pub environment_format : (states : ℕ) → Bool → Format EnvFault (Environment × List ℕ)
+environment_format states said =
+    and_then (numbers_format states said) (λ e.
     and_then (grid_format (e.width * e.height)) (λ cells.
     ended (done (e, cells))))

@@ -9,7 +9,7 @@ use Rattle.sbpl_cfg.specs.declared.fault.EnvFault.TheVariants.{NoMemory}
 use Rattle.sbpl_cfg.specs.declared.pose.Pose.{Pose}
 use Rattle.sbpl_cfg.specs.Faults.{told}
 use Rattle.sbpl_cfg.specs.Format.{environment_format, headings_word, says_headings}
-use Rattle.sbpl_cfg.specs.Environment.{Environment, IsEnvironment, usual_headings}
+use Rattle.sbpl_cfg.specs.Environment.{Environment, IsEnvironment, state_count, usual_headings}
 
 -- what a token says: a fixed word, a whole number, or a decimal by its billionths
 pub data Said : Type 0 where
@@ -80,15 +80,16 @@ pub record IsGrid (e : Environment) (cells : List ℕ) : Type 0 where
   pub costs : AllByRecursion (λ c. c ≤ 255) cells
 
 -- The text stands for the environment and the grid: its tokens are those of the file, the numbers lie in their ranges, there
--- are not too many states, both poses are on the map, and the grid has the size.
-pub record IsTextOf (text : List ℕ) (e : Environment) (cells : List ℕ) : Type 0 where
+-- are not more states than the limit, both poses are on the map, and the grid has the size.
+pub record IsTextOf (states : ℕ) (text : List ℕ) (e : Environment) (cells : List ℕ) : Type 0 where
   pub tokens : AreTokensOf (words_of text) e cells
   pub environment : IsEnvironment e
+  pub few : state_count e ≤ states
   pub grid : IsGrid e cells
 
 -- the text stands for an environment and a grid
-abbrev pub IsText : List ℕ → Type 0
-IsText text = (e : Environment) × (cells : List ℕ) × IsTextOf text e cells
+abbrev pub IsText : (states : ℕ) → List ℕ → Type 0
+IsText states text = (e : Environment) × (cells : List ℕ) × IsTextOf states text e cells
 
 -- Two texts with the same tokens, but that one says the usual number of headings and the other leaves it out.
 pub record LeavesOutUsual (plain full : List ℕ) : Type 0 where
@@ -104,8 +105,8 @@ pub record LeavesOutUsual (plain full : List ℕ) : Type 0 where
 
 -- Up to the fault's offset the text is what the format calls for, with the number of headings where the text says it, and
 -- there it fails in the way that the fault names.
-abbrev pub HasFault : List ℕ → EnvFault → Type 0
-HasFault text f = HasFirstFault told (environment_format (says_headings text)) text f
+abbrev pub HasFault : (states : ℕ) → List ℕ → EnvFault → Type 0
+HasFault states text f = HasFirstFault told (environment_format states (says_headings text)) text f
 
-abbrev pub IsFaulty : List ℕ → Type 0
-IsFaulty text = (f : EnvFault) × (f ≢ NoMemory) × HasFault text f
+abbrev pub IsFaulty : (states : ℕ) → List ℕ → Type 0
+IsFaulty states text = (f : EnvFault) × (f ≢ NoMemory) × HasFault states text f

@@ -14,13 +14,13 @@ pub(crate) const USUAL_HEADINGS: u32 = 16;
 pub(crate) const HEADINGS_WORD: &[u8] = b"NumThetaDirs:";
 
 /// The numbers of an environment file. Lengths are nanometres, times nanoseconds, speeds nanometres per second,
-/// angles nanoradians. Its type keeps the ranges of the format, that `width * height * headings` is at most 2^23,
+/// angles nanoradians. Its type keeps the ranges of the format, that `width * height * headings` is at most 2^28,
 /// and that the cells of both poses are on the map.
 #[derive(Clone, Copy, Debug, PartialEq, Eq)]
 pub struct Env {
-    /// Cells along x, 1..8388608.
+    /// Cells along x, 1..268435456.
     pub width: u32,
-    /// Cells along y, 1..8388608.
+    /// Cells along y, 1..268435456.
     pub height: u32,
     /// A cell of this cost or more is an obstacle.
     pub obsthresh: u8,

@@ -27,8 +27,8 @@ pub enum EnvFault {
     /// A token stands after the last one.
     #[error("more than an environment, at byte {0}")]
     Trailing(usize),
-    /// There are more than 2^23 states. The offset is that of the width.
-    #[error("more than 2^23 states, by the size at byte {0}")]
+    /// There are more states than the limit. The offset is that of the width.
+    #[error("too many states, by the size at byte {0}")]
     TooLarge(usize),
     /// The start's cell is off the map. The offset is that of the start's x.
     #[error("a start off the map, at byte {0}")]

@@ -15,7 +15,7 @@ pub use env::{Env, Grid};
 pub use fault::EnvFault;
 pub use message::{
     COST_WANTED, HEIGHT_WANTED, OBSTACLE_WANTED, START_WANTED, WIDTH_WANTED, count_before,
-    environment_message, metres, on_map_text,
+    environment_message, metres, on_map_text, with_limit,
 };
 pub use place::{TAU, cell_at, heading_at, place_at, places_in_plain_words};
 pub use pose::{Place, Pose};

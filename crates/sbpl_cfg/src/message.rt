@@ -9,12 +9,13 @@ use sbpl_fixed::{NoMemory, read_nano, read_whole};
 use sbpl_lists::{Message, Row, message_at, value_before, wanted_at};
 use std::alloc::{AllocError, Global};
 
-/// What must stand where the size of a map is told, and the costs of its cells, in the file of a grid too.
+/// What must stand where the size of a map is told, and the costs of its cells, in the file of a grid too. A text that ends
+/// in a space is completed by `with_limit`.
 pub const START_WANTED: &str = "discretization(cells): must stand here";
 
-pub const WIDTH_WANTED: &str = "the width in cells must be a whole number from 1 to 8388608";
+pub const WIDTH_WANTED: &str = "the width in cells must be a whole number from 1 to ";
 
-pub const HEIGHT_WANTED: &str = "the height in cells must be a whole number from 1 to 8388608";
+pub const HEIGHT_WANTED: &str = "the height in cells must be a whole number from 1 to ";
 
 pub const OBSTACLE_WANTED: &str = "obsthresh must be a whole number from 0 to 255";
 
@@ -87,7 +88,7 @@ const ROWS: [Row; 11] = [
     },
 ];
 
-/// What must stand at the place of a fault, whatever the file says.
+/// What must stand at the place of a fault, whatever the file says, without the limit of states.
 fn wanted(text: &[u8], fault: &EnvFault) -> &'static str {
     match fault {
         EnvFault::Word(place)
@@ -95,17 +96,26 @@ fn wanted(text: &[u8], fault: &EnvFault) -> &'static str {
         | EnvFault::Range(place)
         | EnvFault::Ended(place) => wanted_at(&ROWS, START_WANTED, text, *place),
         EnvFault::Trailing(_) => "the file must end after the cost of the last cell",
-        EnvFault::TooLarge(_) =>
-            "width times height times the number of headings must be at most 8388608",
+        EnvFault::TooLarge(_) => "width times height times the number of headings must be at most ",
         EnvFault::StartOff(_) | EnvFault::EndOff(_) => "the pose must lie on the map",
         EnvFault::NoMemory => "there must be memory",
     }
 }
 
-/// Billionths of a metre as decimal metres.
-pub fn metres(alloc: Global, nano: i64) -> Result<String, AllocError> {
-    let sign = if nano < 0 { "-" } else { "" };
-    let nano = nano.unsigned_abs();
+/// A text that ends in a space, with the number that it leaves out: the last of a range from 0 that has `states` numbers, or
+/// otherwise `states`. Any other text stays as it is.
+pub fn with_limit(alloc: Global, text: &str, states: u32) -> Result<String, AllocError> {
+    if text.ends_with(" 0 to ") {
+        format!(in alloc; "{text}{}", states.saturating_sub(1))
+    } else if text.ends_with(' ') {
+        format!(in alloc; "{text}{states}")
+    } else {
+        String::from_str(alloc, text)
+    }
+}
+
+/// Billionths of a metre as decimal metres, with this sign before them.
+fn metres_after(alloc: Global, sign: &str, nano: u128) -> Result<String, AllocError> {
     let text = format!(in alloc;
         "{sign}{}.{:09}",
         nano / 1_000_000_000,
@@ -113,6 +123,21 @@ pub fn metres(alloc: Global, nano: i64) -> Result<String, AllocError> {
     )?;
     let short = text.as_str().trim_end_matches('0').trim_end_matches('.');
     String::from_str(alloc, short)
+}
+
+/// Billionths of a metre as decimal metres.
+pub fn metres(alloc: Global, nano: i64) -> Result<String, AllocError> {
+    let sign = if nano < 0 { "-" } else { "" };
+    metres_after(alloc, sign, u128::from(nano.unsigned_abs()))
+}
+
+/// The length of `count` cells of the side `cell`, in nanometres, as decimal metres.
+fn length_of(alloc: Global, cell: i64, count: u32) -> Result<String, AllocError> {
+    metres_after(
+        alloc,
+        "",
+        u128::from(cell.unsigned_abs()) * u128::from(count),
+    )
 }
 
 /// What is said of a pose of this name that is off a map of `width` times `height` cells of the side `cell`, in nanometres.
@@ -123,8 +148,8 @@ pub fn on_map_text(
     width: u32,
     height: u32,
 ) -> Result<String, AllocError> {
-    let width = metres(alloc, cell.saturating_mul(i64::from(width)))?;
-    let height = metres(alloc, cell.saturating_mul(i64::from(height)))?;
+    let width = length_of(alloc, cell, width)?;
+    let height = length_of(alloc, cell, height)?;
     format!(in alloc;
         "{name} must lie on the map, where x goes from 0 to below {} and y from 0 to below {} metres",
         width.as_str(),
@@ -154,26 +179,33 @@ fn off_map_text(
     on_map_text(alloc, name, cell, width, height)
 }
 
-/// What must stand at the place of a fault.
-fn wanted_text(alloc: Global, text: &[u8], fault: &EnvFault) -> Result<String, AllocError> {
+/// What must stand at the place of a fault, where there may be this many states.
+fn wanted_text(
+    alloc: Global,
+    text: &[u8],
+    fault: &EnvFault,
+    states: u32,
+) -> Result<String, AllocError> {
     match fault {
         EnvFault::StartOff(place) => off_map_text(alloc, "the start", text, *place),
         EnvFault::EndOff(place) => off_map_text(alloc, "the end", text, *place),
-        _ => String::from_str(alloc, wanted(text, fault)),
+        _ => with_limit(alloc, wanted(text, fault), states),
     }
 }
 
-/// The message of a fault of an environment file: where it is, what must stand there, and what was found.
+/// The message of a fault of an environment file that was read with this limit of states: where the fault is, what must stand
+/// there, and what was found.
 pub fn environment_message(
     alloc: Global,
     name: &str,
     text: &[u8],
     fault: &EnvFault,
+    states: u32,
 ) -> Result<Message, NoMemory>
     // It has the line and the column of the fault's place, and shows the token that begins there.
     ensures message { IfOk result (λ m. IsMessageAt name.now text.now (place_of fault.now) m) }
 {
-    let wanted = wanted_text(alloc, text, fault)?;
+    let wanted = wanted_text(alloc, text, fault, states)?;
     let message = message_at(alloc, name, text, fault.place(), wanted.as_str())?;
     Ok(message)
 }

@@ -25,9 +25,6 @@ use crate::pose::Pose;
 use sbpl_fixed::{Placed, Reader, TextFault};
 use std::alloc::Global;
 
-/// The most states that a planner takes.
-const MOST_STATES: u64 = 8_388_608;
-
 /// The greatest side, speed and time: nanometres, nanometres per second, nanoseconds.
 const MOST_RATE: i64 = 1_000_000_000_000;
 
@@ -88,16 +85,16 @@ fn says_headings(text: &[u8]) -> bool
     }
 }
 
-/// Cells along x and along y, with the place of the width.
+/// Cells along x and along y, with the place of the width. `states` is the limit.
 #[tactic(auto, unfolding(sbpl_fixed::specs::Formats::reads, crate::specs::Format::extent_format))]
-fn extent(reader: &mut Reader) -> Result<Placed<Extent>, EnvFault>
-    ensures read { Gives NoMemory (λ x. x) result reader.new (reads told extent_format reader.old) }
-    ensures width { IfOk result (λ x. (1 ≤ x.value.width) × (x.value.width ≤ 8388608)) }
-    ensures height { IfOk result (λ x. (1 ≤ x.value.height) × (x.value.height ≤ 8388608)) }
+fn extent(reader: &mut Reader, states: u32) -> Result<Placed<Extent>, EnvFault>
+    ensures read { Gives NoMemory (λ x. x) result reader.new (reads told (extent_format states) reader.old) }
+    ensures width { IfOk result (λ x. (1 ≤ x.value.width) × (x.value.width ≤ states)) }
+    ensures height { IfOk result (λ x. (1 ≤ x.value.height) × (x.value.height ≤ states)) }
 {
     reader.word(b"discretization(cells):")?;
-    let width = reader.natural(1, 8_388_608)?;
-    let height = reader.natural(1, 8_388_608)?;
+    let width = reader.natural(1, states)?;
+    let height = reader.natural(1, states)?;
     Ok(Placed {
         value: Extent {
             width: width.value,
@@ -121,17 +118,18 @@ fn headings(reader: &mut Reader, said: bool) -> Result<u32, EnvFault>
 
 /// The lattice's size, which must leave room for the states.
 #[tactic(auto, using(sbpl_fixed::specs::Parts::reading), unfolding(sbpl_fixed::specs::Formats::reads, crate::specs::Format::size_format))]
-fn size(reader: &mut Reader, said: bool) -> Result<Size, EnvFault>
-    ensures read { Gives NoMemory (λ x. x) result reader.new (reads told (size_format said) reader.old) }
-    ensures width { IfOk result (λ x. (1 ≤ x.width) × (x.width ≤ 8388608)) }
-    ensures height { IfOk result (λ x. (1 ≤ x.height) × (x.height ≤ 8388608)) }
+fn size(reader: &mut Reader, said: bool, states: u32) -> Result<Size, EnvFault>
+    requires limit { states ≤ 268435456 }
+    ensures read { Gives NoMemory (λ x. x) result reader.new (reads told (size_format states said) reader.old) }
+    ensures width { IfOk result (λ x. (1 ≤ x.width) × (x.width ≤ states)) }
+    ensures height { IfOk result (λ x. (1 ≤ x.height) × (x.height ≤ states)) }
     ensures headings { IfOk result (λ x. IsHeadingCount x.headings) }
-    ensures states { IfOk result (λ x. x.width * x.height * x.headings ≤ 8388608) }
+    ensures states { IfOk result (λ x. x.width * x.height * x.headings ≤ states) }
 {
-    let extent = extent(reader)?;
+    let extent = extent(reader, states)?;
     let headings = headings(reader, said)?;
     let Extent { width, height } = extent.value;
-    if u64::from(width) * u64::from(height) * u64::from(headings) > MOST_STATES {
+    if u64::from(width) * u64::from(height) * u64::from(headings) > u64::from(states) {
         return Err(EnvFault::TooLarge(extent.place));
     }
     Ok(Size {
@@ -306,11 +304,12 @@ fn end(reader: &mut Reader, header: &Header) -> Result<Pose, EnvFault>
 
 /// All but the poses and the costs.
 #[tactic(auto, using(sbpl_fixed::specs::Parts::reading), unfolding(sbpl_fixed::specs::Formats::reads, crate::specs::Format::header_format))]
-fn header(reader: &mut Reader, said: bool) -> Result<Header, EnvFault>
-    ensures read { Gives NoMemory (λ x. x) result reader.new (reads told (header_format said) reader.old) }
+fn header(reader: &mut Reader, said: bool, states: u32) -> Result<Header, EnvFault>
+    requires limit { states ≤ 268435456 }
+    ensures read { Gives NoMemory (λ x. x) result reader.new (reads told (header_format states said) reader.old) }
     ensures in_range { IfOk result IsHeaderInRange }
 {
-    let size = size(reader, said)?;
+    let size = size(reader, said, states)?;
     let thresholds = thresholds(reader)?;
     let rates = rates(reader)?;
     Ok(Header {
@@ -355,10 +354,11 @@ fn env_of(header: &Header, ends: &Ends) -> Env
 
 /// All numbers but the costs.
 #[tactic(auto, using(sbpl_fixed::specs::Parts::reading), unfolding(sbpl_fixed::specs::Formats::reads, crate::specs::Format::numbers_format))]
-fn numbers(reader: &mut Reader, said: bool) -> Result<Env, EnvFault>
-    ensures read { Gives NoMemory (λ x. x) result reader.new (reads told (numbers_format said) reader.old) }
+fn numbers(reader: &mut Reader, said: bool, states: u32) -> Result<Env, EnvFault>
+    requires limit { states ≤ 268435456 }
+    ensures read { Gives NoMemory (λ x. x) result reader.new (reads told (numbers_format states said) reader.old) }
 {
-    let header = header(reader, said)?;
+    let header = header(reader, said, states)?;
     let ends = ends(reader, &header)?;
     Ok(env_of(&header, &ends))
 }
@@ -379,10 +379,16 @@ fn costs(alloc: Global, reader: &mut Reader, count: u32) -> Result<Vec<u8>, EnvF
 
 /// The whole file, with the number of headings where the text says it.
 #[tactic(auto, using(sbpl_fixed::specs::Parts::reading), unfolding(sbpl_fixed::specs::Formats::reads, crate::specs::Format::environment_format))]
-fn environment(alloc: Global, reader: &mut Reader, said: bool) -> Result<(Env, Grid), EnvFault>
-    ensures read { Gives NoMemory (λ x. x) result reader.new (reads told (environment_format said) reader.old) }
+fn environment(
+    alloc: Global,
+    reader: &mut Reader,
+    said: bool,
+    states: u32,
+) -> Result<(Env, Grid), EnvFault>
+    requires limit { states ≤ 268435456 }
+    ensures read { Gives NoMemory (λ x. x) result reader.new (reads told (environment_format states said) reader.old) }
 {
-    let env = numbers(reader, said)?;
+    let env = numbers(reader, said, states)?;
     let costs = costs(alloc, reader, env.width * env.height)?;
     reader.end()?;
     Ok((env, Grid::of(costs)))
@@ -390,23 +396,24 @@ fn environment(alloc: Global, reader: &mut Reader, said: bool) -> Result<(Env, G
 
 /// Reads an environment file: its tokens, in order, are the words and numbers of `print_env`, separated by any blanks; a whole
 /// number may have a sign and leading zeros, a decimal any decimals, of which the first nine are read. The word
-/// `NumThetaDirs:` and the number of headings may stand directly after the height; without them there are 16 headings. The
-/// ranges are those of `Env`. A fault is the first one in reading order, with its offset; `TooLarge` comes directly after
-/// the height, or after the number of headings where the text says it, `StartOff` and `EndOff` directly after their pose.
-/// Only the costs take memory.
+/// `NumThetaDirs:` and the number of headings may stand directly after the height; without them there are 16 headings. There
+/// may be at most `states` states. The other ranges are those of `Env`. A fault is the first one in reading order, with its
+/// offset; `TooLarge` comes directly after the height, or after the number of headings where the text says it, `StartOff` and
+/// `EndOff` directly after their pose. Only the costs take memory.
 #[tactic(auto, using(sbpl_fixed::proofs::Meaning::answering))]
-pub fn read_env(alloc: Global, text: &[u8]) -> Result<(Env, Grid), EnvFault>
+pub fn read_env(alloc: Global, text: &[u8], states: u32) -> Result<(Env, Grid), EnvFault>
+    requires limit { states ≤ 268435456 }
     // What is read is what the text stands for.
-    ensures found { IfOk result (λ x. IsTextOf text.now x.0 x.1) }
+    ensures found { IfOk result (λ x. IsTextOf states text.now x.0 x.1) }
     // What a text stands for is read, unless memory runs out.
     ensures only { (x : Environment × List ℕ)
-        → IsTextOf text.now x.0 x.1 → Answers NoMemory (λ y. y) result (Ok x) }
+        → IsTextOf states text.now x.0 x.1 → Answers NoMemory (λ y. y) result (Ok x) }
     // A fault is the text's first one.
-    ensures faulty { IfErr result (λ f. f ≢ NoMemory → HasFault text.now f) }
+    ensures faulty { IfErr result (λ f. f ≢ NoMemory → HasFault states text.now f) }
     // The first fault of a text is answered, unless memory runs out.
     ensures only_faulty { (f : EnvFault)
-        → HasFault text.now f → Answers NoMemory (λ y. y) result (Err f) }
+        → HasFault states text.now f → Answers NoMemory (λ y. y) result (Err f) }
 {
     let said = says_headings(text);
-    environment(alloc, &mut Reader::new(text), said)
+    environment(alloc, &mut Reader::new(text), said, states)
 }

@@ -35,12 +35,12 @@ bound_step e ps way n m place p at less =
 
 -- a bound of few cells is small
 pub bound_small : (e : Environment) (ps : List Primitive) (way : Way) (n : ℕ)
-    → ((i : ℕ) (p : Primitive) → slice_get ps i ≡ Some p → primitive_cost e p ≤ most_cost) → n ≤ 2 ^ 23
+    → ((i : ℕ) (p : Primitive) → slice_get ps i ≡ Some p → primitive_cost e p ≤ most_cost) → n ≤ 2 ^ 28
     → way_bound e ps way n < 2 ^ 55
 bound_small e ps way n cheap few =
     let f = floor_of e way ps in
     let one : f.0 ≤ 16777215 = f.2.small most_cost cheap in
-    let two : n * f.0 ≤ 8388608 * 16777215 = mul-le-mul few one in
+    let two : n * f.0 ≤ 268435456 * 16777215 = mul-le-mul few one in
     let three : n * f.0 / f.1 ≤ n * f.0 = div-le_self (n * f.0) f.1 in
     omega (arith, two, three, f.2.floors n)
 
@@ -79,7 +79,7 @@ module _ (e : Environment) (ps : List Primitive) where
       omega arith
 
   pub gap_small : (a b : Place) → ((i : ℕ) (p : Primitive) → slice_get ps i ≡ Some p → primitive_cost e p ≤ most_cost)
-      → e.width ≤ 8388608 → e.height ≤ 8388608 → e.headings ≤ 8388608
+      → e.width ≤ 268435456 → e.height ≤ 268435456 → e.headings ≤ 268435456
       → IsPlace e a → IsPlace e b → gap_of e ps a b < 2 ^ 55
   unfolding gap_of
   gap_small a b cheap wide high turns at to =

@@ -5,7 +5,7 @@ ghost use Rattle.sbpl_cost.specs.States.{IsPlace, IsOff, place_of, state_number,
 
 use sbpl_sweep::{Env, Place, Prim};
 
-/// How many states there are, 1 to 2^23.
+/// How many states there are, 1 to 2^28.
 pub(crate) fn state_count(env: &Env) -> u32
     ensures value { result ≡ state_count env.now }
 {

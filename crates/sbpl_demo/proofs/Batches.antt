@@ -67,7 +67,7 @@ batches_hold width height (suc n) from P some more h =
 
 pub are_changes : (width height seed : ℕ) (m : CellMap) → 8 ≤ width → width ≤ 512 → 8 ≤ height → height ≤ 512
     → m.width ≡ width → m.height ≡ height
-    → AreChangesOf m (changes_drawn width height seed)
+    → AreChangesOf 8388608 m (changes_drawn width height seed)
 are_changes width height seed m a b c d e f =
     let from = word_after (width * height) seed in
     record {

@@ -7,7 +7,7 @@ use Rattle.std.proofs.lemmas.Int.{ints}
 use Rattle.std.proofs.lemmas.Bool.{cases_Bool}
 use Rattle.std.proofs.lemmas.List.{length-append, length-set}
 use Rattle.std.proofs.lemmas.Nat.{mul-lt}
-use Rattle.sbpl_cost.specs.sbpl_cfg.Environment.{IsEnvironment, IsOnAxis, IsPoseInRange}
+use Rattle.sbpl_cost.specs.sbpl_cfg.Environment.{IsEnvironment, IsOnAxis, IsPoseInRange, state_count}
 use Rattle.sbpl_cost.specs.sbpl_cfg.Place.{cell_of}
 use Rattle.sbpl_cost.specs.sbpl_cfg.Text.{IsGrid}
 use Rattle.sbpl_demo.specs.Generator.{draw}
@@ -47,6 +47,12 @@ is_environment width height a b c d =
       end_on_map =
           record { x = on_axis width (width - 2) (omega arith); y = on_axis height (height - 2) (omega arith) };
     }
+
+-- and it has few states
+pub few_states : (width height : ℕ) → width ≤ 512 → height ≤ 512 → state_count (environment width height) ≤ 8388608
+few_states width height b d =
+    let cells : width * height < 513 * 513 = mul-lt width height 513 513 (omega arith) (omega arith) in
+    omega (arith, cells)
 
 -- ---- the costs
 

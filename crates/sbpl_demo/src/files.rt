@@ -59,9 +59,9 @@ fn draw_files(alloc: Global, seed: u64, width: u32, height: u32) -> Result<Demo,
 }
 
 /// Draws an environment of `width` by `height` cells, 8..512 each, and three batches of changes of it from a seed. The
-/// primitives are the same for each seed and size. Each of the three texts is read without a fault, that of the changes on the
-/// map of the environment. The text of the changes has at most 429 bytes. For a robot of radius 0 no primitive is too wide, and
-/// none is too dear in this environment.
+/// primitives are the same for each seed and size. Each of the three texts is read without a fault, where there may be 2^23
+/// states; that of the changes is read on the map of the environment. The text of the changes has at most 429 bytes. For a robot
+/// of radius 0 no primitive is too wide, and none is too dear in this environment.
 #[tactic(auto, using(crate::proofs::Batches::are_three, crate::proofs::Batches::are_short, crate::proofs::Eighty::eighty))]
 pub fn generate(alloc: Global, seed: u64, width: u32, height: u32) -> Result<Demo, NoMemory>
     requires width { (8 ≤ width) × (width ≤ 512) }
@@ -70,12 +70,13 @@ pub fn generate(alloc: Global, seed: u64, width: u32, height: u32) -> Result<Dem
     ensures prims { IfOk result (λ demo. demo.prims ≡ primitives_text) }
     ensures changes { IfOk result (λ demo. demo.changes ≡ changes_text (changes_drawn width height seed)) }
     // The environment file is read as this environment and these costs.
-    ensures env_said { IfOk result (λ demo. IsEnvironmentText demo.env (environment width height) (costs width height seed)) }
+    ensures env_said { IfOk result (λ demo. IsEnvironmentText 8388608 demo.env (environment width height)
+        (costs width height seed)) }
     // The primitive file is read as these primitives.
     ensures prims_said { IfOk result (λ demo. IsPrimitiveText demo.prims primitives) }
     // The change file is read as these batches, on each map of this size.
     ensures changes_said { IfOk result (λ demo. (m : CellMap)
-        → m.width ≡ width → m.height ≡ height → IsChangeText m demo.changes (changes_drawn width height seed)) }
+        → m.width ≡ width → m.height ≡ height → IsChangeText 8388608 m demo.changes (changes_drawn width height seed)) }
     ensures eighty { length primitives.items ≡ 80 }
     ensures three { length (changes_drawn width height seed) ≡ 3 }
     ensures short { IfOk result (λ demo. length demo.changes ≤ 429) }

@@ -5,7 +5,7 @@ use Rattle.sbpl_graph.specs.Network.{Network, IsArc, IsFreeArc}
 -- the laws of a graph's states, arcs and costs
 pub record IsSound (n : Network) : Type 0 where
   pub some_state : 1 ≤ n.states
-  pub few_states : n.states ≤ 2 ^ 23
+  pub few_states : n.states ≤ 2 ^ 28
   pub few_arcs : (s : ℕ) → s < n.states → n.fan s ≤ 4096
   pub head_is_state : (s k t : ℕ) → s < n.states → k < n.fan s → n.head s k ≡ Some t → t < n.states
   pub cost_at_least_one : (s k c : ℕ) → s < n.states → k < n.fan s → n.cost s k ≡ Some c → 1 ≤ c

@@ -11,7 +11,7 @@ ghost use Rattle.sbpl_graph.specs.Laws.{IsSound, HasExactTails, HasGaps};
 pub trait Graph {
     ghost network: { Self → Network };
 
-    /// The number of states, 1 to 2^23.
+    /// The number of states, 1 to 2^28.
     fn states(&self) -> u32
         ensures value { result ≡ (network self.now).states }
         ensures sound { IsSound (network self.now) }

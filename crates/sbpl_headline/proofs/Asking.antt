@@ -15,7 +15,7 @@ use Rattle.sbpl_promises.specs.sbpl_job.Forms.{form_words, given_of, name_of, pl
 use Rattle.sbpl_promises.specs.sbpl_job.Jobs.{Settings, budget_by, budget_in, differ, form_by, is_input, job_by, job_of, job_with}
 use Rattle.sbpl_promises.specs.sbpl_job.Jobs.{grid_sources_by, may_move, milli_by, milli_in, nav_by, nav_in, output_by, outputs_by, outputs_in}
 use Rattle.sbpl_promises.specs.sbpl_job.Jobs.{plan_by, plan_in, planner_by, radius_by, radius_in, search_in, grid_search_in}
-use Rattle.sbpl_promises.specs.sbpl_job.Jobs.{pose_by, sources_by, square_by, workers_by}
+use Rattle.sbpl_promises.specs.sbpl_job.Jobs.{pose_by, sources_by, square_by, states_by, workers_by}
 use Rattle.sbpl_promises.specs.sbpl_job.Words.{WordParts, id_of, is_plain_word, is_setting, parts_of, takes}
 use Rattle.sbpl_promises.specs.sbpl_job.Words as given
 use Rattle.sbpl_promises.specs.sbpl_job.declared.job.Job.{Job}
@@ -76,6 +76,7 @@ name_tested setting.First = refl
 name_tested setting.Step = refl
 name_tested setting.Bound = refl
 name_tested setting.Budget = refl
+name_tested setting.States = refl
 name_tested setting.Labels = refl
 name_tested setting.LabelsAs = refl
 name_tested setting.Trace = refl
@@ -425,8 +426,9 @@ nav_of from changes None search j h = absurd (none-some j h)
 nav_of from changes (Some o) None j h = absurd (none-some j h)
 nav_of from changes (Some o) (Some s) j h = (o, s, refl, refl, same_Some (nav_by from changes o s) j h)
 
--- a plan on a lattice: its files, its radius, its changes, its search and its outputs
+-- a plan on a lattice: its files, its limit of states, its radius, its changes, its search and its outputs
 record IsPlanBy (env prims : Word) (set : Settings) (j : Job) : Type 0 where
+  states : ℕ
   radius : ℕ
   radius_is : radius_by (set setting.Radius) ≡ Some radius
   start : Option Pose
@@ -438,24 +440,27 @@ record IsPlanBy (env prims : Word) (set : Settings) (j : Job) : Type 0 where
   search : SearchJob
   search_is : search_in set ≡ Some search
   same :
-      plan_by (record { env = env; prims = prims; radius = radius; start = start; goal = goal }) (set setting.Changes)
-      outputs search ≡ j
+      plan_by (record { env = env; prims = prims; states = states; radius = radius; start = start; goal = goal })
+      (set setting.Changes) outputs search ≡ j
 
--- a job `plan` whose radius is known has these parts
-plan_with : (env prims : Word) (set : Settings) (radius : Option ℕ) (start goal : Option (Option Pose)) (j : Job)
+-- a job `plan` whose limit and radius are known has these parts
+plan_with : (env prims : Word) (set : Settings) (states radius : Option ℕ) (start goal : Option (Option Pose)) (j : Job)
     → radius_by (set setting.Radius) ≡ radius → pose_by (set setting.Start) ≡ start
     → pose_by (set setting.Goal) ≡ goal
     → option_and_then (λ from. option_and_then (λ o. option_map (plan_by from (set setting.Changes) o) (search_in set))
-    (outputs_in (from.env ∷ (from.prims ∷ [])) (set setting.Changes) set)) (sources_by env prims radius start goal) ≡ Some j
+    (outputs_in (from.env ∷ (from.prims ∷ [])) (set setting.Changes) set))
+    (sources_by env prims states radius start goal) ≡ Some j
     → IsPlanBy env prims set j
-plan_with env prims set None start goal j e e' e'' h = absurd (none-some j h)
-plan_with env prims set (Some r) None goal j e e' e'' h = absurd (none-some j h)
-plan_with env prims set (Some r) (Some s) None j e e' e'' h = absurd (none-some j h)
-plan_with env prims set (Some r) (Some s) (Some g) j e e' e'' h =
-    let from : Sources = record { env = env; prims = prims; radius = r; start = s; goal = g } in
+plan_with env prims set None radius start goal j e e' e'' h = absurd (none-some j h)
+plan_with env prims set (Some n) None start goal j e e' e'' h = absurd (none-some j h)
+plan_with env prims set (Some n) (Some r) None goal j e e' e'' h = absurd (none-some j h)
+plan_with env prims set (Some n) (Some r) (Some s) None j e e' e'' h = absurd (none-some j h)
+plan_with env prims set (Some n) (Some r) (Some s) (Some g) j e e' e'' h =
+    let from : Sources = record { env = env; prims = prims; states = n; radius = r; start = s; goal = g } in
     let it =
     plan_of from (set setting.Changes) (outputs_in (env ∷ prims ∷ []) (set setting.Changes) set) (search_in set) j h in
     record {
+      states = n;
       radius = r;
       radius_is = e;
       start = s;
@@ -472,19 +477,30 @@ plan_with env prims set (Some r) (Some s) (Some g) j e e' e'' h =
 -- a job `plan` has these parts
 plan_is : (env prims : Word) (set : Settings) (j : Job) → plan_in env prims set ≡ Some j → IsPlanBy env prims set j
 plan_is env prims set j h =
-    plan_with env prims set (radius_by (set setting.Radius)) (pose_by (set setting.Start)) (pose_by (set setting.Goal)) j
-    refl refl refl h
+    plan_with env prims set (states_by (set setting.States)) (radius_by (set setting.Radius))
+    (pose_by (set setting.Start)) (pose_by (set setting.Goal)) j refl refl refl h
 
 -- a job `nav` has these sources, and the rest of it is what its settings say
-nav_with : (env : Word) (set : Settings) (start goal : Option (Option Square)) (j : Job)
+nav_with : (env : Word) (set : Settings) (states : ℕ) (start goal : Option (Option Square)) (j : Job)
     → option_and_then (λ from. option_and_then (λ o. option_map (nav_by from (set setting.Changes) o) (grid_search_in set))
-    (outputs_in (from.env ∷ []) (set setting.Changes) set)) (grid_sources_by env start goal) ≡ Some j
+    (outputs_in (from.env ∷ []) (set setting.Changes) set)) (grid_sources_by env states start goal) ≡ Some j
     → (s : Option Square) × (g : Option Square) × (start ≡ Some s) × (goal ≡ Some g)
-    × (option_and_then (λ o. option_map (nav_by (record { env = env; start = s; goal = g }) (set setting.Changes) o)
-    (grid_search_in set)) (outputs_in (env ∷ []) (set setting.Changes) set) ≡ Some j)
-nav_with env set None goal j h = absurd (none-some j h)
-nav_with env set (Some s) None j h = absurd (none-some j h)
-nav_with env set (Some s) (Some g) j h = (s, g, refl, refl, h)
+    × (option_and_then (λ o. option_map (nav_by (record { env = env; states = states; start = s; goal = g })
+    (set setting.Changes) o) (grid_search_in set)) (outputs_in (env ∷ []) (set setting.Changes) set) ≡ Some j)
+nav_with env set states None goal j h = absurd (none-some j h)
+nav_with env set states (Some s) None j h = absurd (none-some j h)
+nav_with env set states (Some s) (Some g) j h = (s, g, refl, refl, h)
+
+-- it has a limit of states
+nav_limit : (env : Word) (set : Settings) (states : Option ℕ) (j : Job)
+    → option_and_then (λ from. option_and_then (λ o. option_map (nav_by from (set setting.Changes) o) (grid_search_in set))
+    (outputs_in (from.env ∷ []) (set setting.Changes) set)) (option_and_then (λ n.
+    grid_sources_by env n (square_by n (set setting.Start)) (square_by n (set setting.Goal))) states) ≡ Some j
+    → (n : ℕ) × (option_and_then (λ from. option_and_then (λ o. option_map (nav_by from (set setting.Changes) o)
+    (grid_search_in set)) (outputs_in (from.env ∷ []) (set setting.Changes) set))
+    (grid_sources_by env n (square_by n (set setting.Start)) (square_by n (set setting.Goal))) ≡ Some j)
+nav_limit env set None j h = absurd (none-some j h)
+nav_limit env set (Some n) j h = (n, h)
 
 -- ---- both commands
 
@@ -504,7 +520,15 @@ plan_asked law rest j h =
     let prims = named.1 in
     let by = plan_is env prims set j named.3 in
     let p : PlanJob = record {
-      sources = record { env = env; prims = prims; radius = by.radius; start = by.start; goal = by.goal };
+      sources =
+          record {
+            env = env;
+            prims = prims;
+            states = by.states;
+            radius = by.radius;
+            start = by.start;
+            goal = by.goal;
+          };
       changes = set setting.Changes;
       search = by.search;
       outputs = by.outputs;
@@ -546,7 +570,7 @@ no_radius (Joined t w ∷ fs) fit =
 -- the words after `nav` ask what the job has in it, with no radius, and no output is the standard output
 pub nav_asked : PartsAreOfForms → (rest : List Word) (j : Job) → job_of (codes "nav" ∷ rest) ≡ Some j
     → (n : NavJob) × (start : Option Word) × (goal : Option Word) × (j ≡ job.Nav n)
-    × (square_by start ≡ Some n.sources.start) × (square_by goal ≡ Some n.sources.goal)
+    × (square_by n.sources.states start ≡ Some n.sources.start) × (square_by n.sources.states goal ≡ Some n.sources.goal)
     × Ask rest (n.sources.env ∷ []) (asked_by n.changes start goal 0 n.search) × NoDashes n.outputs
 nav_asked law rest j h =
     let found = parted command.Nav (parts_of command.Nav rest) j h in
@@ -555,8 +579,11 @@ nav_asked law rest j h =
     let set : Settings = λ s. given.value_of s q.given in
     let named = one_word q.plain set j found.2 in
     let env = named.0 in
-    let ends = nav_with env set (square_by (set setting.Start)) (square_by (set setting.Goal)) j named.2 in
-    let from : GridSources = record { env = env; start = ends.0; goal = ends.1 } in
+    let limit = nav_limit env set (states_by (set setting.States)) j named.2 in
+    let states = limit.0 in
+    let ends =
+    nav_with env set states (square_by states (set setting.Start)) (square_by states (set setting.Goal)) j limit.1 in
+    let from : GridSources = record { env = env; states = states; start = ends.0; goal = ends.1 } in
     let by =
     nav_of from (set setting.Changes) (outputs_in (env ∷ []) (set setting.Changes) set) (grid_search_in set) j ends.4 in
     let outputs = by.0 in

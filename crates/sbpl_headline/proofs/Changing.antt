@@ -48,13 +48,13 @@ lines_are lines_in =
 -- ---- what lines say
 
 -- the fields of a line that gives something say it
-given_tells : (m : CellMap) (headings : Option ℕ) (line : List (List ℕ)) (g : Given)
-    → LineTells m headings line (said_by g) → AllZip Means (line_words (line_of g)) line
-given_tells m headings line (inl w) h =
+given_tells : (states : ℕ) (m : CellMap) (headings : Option ℕ) (line : List (List ℕ)) (g : Given)
+    → LineTells states m headings line (said_by g) → AllZip Means (line_words (line_of g)) line
+given_tells states m headings line (inl w) h =
     let give = h.4 in
     subst (λ l. AllZip Means (line_words (line_of (inl w))) l) (sym h.3)
     (refl, (whole_says h.0 _ give.x_is.0, (whole_says h.1 _ give.y_is.0, (whole_says h.2 _ give.z_is.0, tt))))
-given_tells m headings line (inr p) h =
+given_tells states m headings line (inr p) h =
     let give = h.4.2 in
     subst (λ l. AllZip Means (line_words (line_of (inr p))) l) (sym h.3)
     (refl, (whole_says h.0 _ give.x_is.0, (whole_says h.1 _ give.y_is.0, (whole_says h.2 _ give.z_is.0, tt))))
@@ -68,34 +68,34 @@ abbrev batch_words : List ChangeLine → List (List Said)
 batch_words batch = map line_words batch ++ (word (codes "replan") ∷ []) ∷ []
 
 -- the lines of a batch say what it gives, and those after them what the next ones do
-batch_tells : (m : CellMap) (headings : Option ℕ) (batch : List Given) (told : List (List Given))
-    → ((rest : List (List (List ℕ))) → LinesTell m headings rest (flat_map spelled_batch told)
+batch_tells : (states : ℕ) (m : CellMap) (headings : Option ℕ) (batch : List Given) (told : List (List Given))
+    → ((rest : List (List (List ℕ))) → LinesTell states m headings rest (flat_map spelled_batch told)
     → AllZip (AllZip Means) (flat_map batch_words (lines_of told)) rest)
     → (told_lines : List (List (List ℕ)))
-    → LinesTell m headings told_lines (spelled_batch batch ++ flat_map spelled_batch told)
+    → LinesTell states m headings told_lines (spelled_batch batch ++ flat_map spelled_batch told)
     → AllZip (AllZip Means) (batch_words (map line_of batch) ++ flat_map batch_words (lines_of told)) told_lines
-batch_tells m headings [] told more [] h = absurd h
-batch_tells m headings [] told more (line ∷ others) h = (end_tells line h.0, more others h.1)
-batch_tells m headings (g ∷ batch) told more [] h = absurd h
-batch_tells m headings (g ∷ batch) told more (line ∷ others) h =
-    (given_tells m headings line g h.0, batch_tells m headings batch told more others h.1)
+batch_tells states m headings [] told more [] h = absurd h
+batch_tells states m headings [] told more (line ∷ others) h = (end_tells line h.0, more others h.1)
+batch_tells states m headings (g ∷ batch) told more [] h = absurd h
+batch_tells states m headings (g ∷ batch) told more (line ∷ others) h =
+    (given_tells states m headings line g h.0, batch_tells states m headings batch told more others h.1)
 
 -- so the lines of batches say what these give, one after another
-batches_tell : (m : CellMap) (headings : Option ℕ) (told : List (List Given)) (told_lines : List (List (List ℕ)))
-    → LinesTell m headings told_lines (flat_map spelled_batch told)
+batches_tell : (states : ℕ) (m : CellMap) (headings : Option ℕ) (told : List (List Given)) (told_lines : List (List (List ℕ)))
+    → LinesTell states m headings told_lines (flat_map spelled_batch told)
     → AllZip (AllZip Means) (flat_map batch_words (lines_of told)) told_lines
-batches_tell m headings [] [] h = tt
-batches_tell m headings [] (line ∷ others) h = absurd h
-batches_tell m headings (batch ∷ told) told_lines h =
-    batch_tells m headings batch told (batches_tell m headings told) told_lines h
+batches_tell states m headings [] [] h = tt
+batches_tell states m headings [] (line ∷ others) h = absurd h
+batches_tell states m headings (batch ∷ told) told_lines h =
+    batch_tells states m headings batch told (batches_tell states m headings told) told_lines h
 
 -- a change file that stands for batches says their lines
-pub lines_say : (m : CellMap) (headings : Option ℕ) (text : List ℕ) (told : List (List Given))
-    → StandsFor m headings text told → IsChangeText (lines_of told) text
-lines_say m headings text told h =
+pub lines_say : (states : ℕ) (m : CellMap) (headings : Option ℕ) (text : List ℕ) (told : List (List Given))
+    → StandsFor states m headings text told → IsChangeText (lines_of told) text
+lines_say states m headings text told h =
     let words = flat_map batch_words (lines_of told) in
     subst (λ told_lines. AllZip (AllZip Means) words told_lines) (lines_are (lines text))
-    (batches_tell m headings told (lines_with_fields (lines text)) h)
+    (batches_tell states m headings told (lines_with_fields (lines text)) h)
 
 -- ---- the updates
 
@@ -143,9 +143,9 @@ alone_no_places (batch ∷ batches) = (write_no_places batch, alone_no_places ba
 -- ---- the places of map updates are on the map
 
 -- a place that a line gives is on the map
-place_on_map : (m : CellMap) (n : ℕ) (line : List (List ℕ)) (p : Place) → LineTells m (Some n) line (said_by (inr p))
-    → IsPlaceOnMap m n (Some p)
-place_on_map m n line p h = (h.5, subst (λ limit. p.t < limit) (sym (same_Some n h.4.0 h.4.1)) h.4.2.z_is.1)
+place_on_map : (states : ℕ) (m : CellMap) (n : ℕ) (line : List (List ℕ)) (p : Place)
+    → LineTells states m (Some n) line (said_by (inr p)) → IsPlaceOnMap m n (Some p)
+place_on_map states m n line p h = (h.5, subst (λ limit. p.t < limit) (sym (same_Some n h.4.0 h.4.1)) h.4.2.z_is.1)
 
 -- the last of some places on the map is on the map
 last_on_map : (m : CellMap) (n : ℕ) (o : Option Place) (places : List Place) → IsPlaceOnMap m n o
@@ -154,48 +154,48 @@ last_on_map m n o [] on h = on
 last_on_map m n o (p ∷ places) on h = last_on_map m n (Some p) places h.0 h.1
 
 -- the places that a batch gives are on the map, and those that the next ones give
-batch_on_map : (m : CellMap) (n : ℕ) (batch : List Given) (told : List (List Given))
-    → ((rest : List (List (List ℕ))) → LinesTell m (Some n) rest (flat_map spelled_batch told)
+batch_on_map : (states : ℕ) (m : CellMap) (n : ℕ) (batch : List Given) (told : List (List Given))
+    → ((rest : List (List (List ℕ))) → LinesTell states m (Some n) rest (flat_map spelled_batch told)
     → ArePlacesOnMap m n (map place_of told))
     → (told_lines : List (List (List ℕ)))
-    → LinesTell m (Some n) told_lines (spelled_batch batch ++ flat_map spelled_batch told)
+    → LinesTell states m (Some n) told_lines (spelled_batch batch ++ flat_map spelled_batch told)
     → AllByRecursion (λ p. IsPlaceOnMap m n (Some p)) (filter_map place_in batch)
     × ArePlacesOnMap m n (map place_of told)
-batch_on_map m n [] told more [] h = absurd h
-batch_on_map m n [] told more (line ∷ others) h = (tt, more others h.1)
-batch_on_map m n (inl w ∷ batch) told more [] h = absurd h
-batch_on_map m n (inl w ∷ batch) told more (line ∷ others) h = batch_on_map m n batch told more others h.1
-batch_on_map m n (inr p ∷ batch) told more [] h = absurd h
-batch_on_map m n (inr p ∷ batch) told more (line ∷ others) h =
-    let both = batch_on_map m n batch told more others h.1 in ((place_on_map m n line p h.0, both.0), both.1)
+batch_on_map states m n [] told more [] h = absurd h
+batch_on_map states m n [] told more (line ∷ others) h = (tt, more others h.1)
+batch_on_map states m n (inl w ∷ batch) told more [] h = absurd h
+batch_on_map states m n (inl w ∷ batch) told more (line ∷ others) h = batch_on_map states m n batch told more others h.1
+batch_on_map states m n (inr p ∷ batch) told more [] h = absurd h
+batch_on_map states m n (inr p ∷ batch) told more (line ∷ others) h =
+    let both = batch_on_map states m n batch told more others h.1 in ((place_on_map states m n line p h.0, both.0), both.1)
 
 -- so the last place of each batch is
-places_on_map : (m : CellMap) (n : ℕ) (told : List (List Given)) (told_lines : List (List (List ℕ)))
-    → LinesTell m (Some n) told_lines (flat_map spelled_batch told) → ArePlacesOnMap m n (map place_of told)
-places_on_map m n [] told_lines h = tt
-places_on_map m n (batch ∷ told) told_lines h =
-    let both = batch_on_map m n batch told (places_on_map m n told) told_lines h in
+places_on_map : (states : ℕ) (m : CellMap) (n : ℕ) (told : List (List Given)) (told_lines : List (List (List ℕ)))
+    → LinesTell states m (Some n) told_lines (flat_map spelled_batch told) → ArePlacesOnMap m n (map place_of told)
+places_on_map states m n [] told_lines h = tt
+places_on_map states m n (batch ∷ told) told_lines h =
+    let both = batch_on_map states m n batch told (places_on_map states m n told) told_lines h in
     (last_on_map m n None (filter_map place_in batch) tt both.0, both.1)
 
 -- ---- the updates that were read
 
 -- a change file that stands for map updates tells them
-updates_by_text : (held : Told) (name : List ℕ) (m : CellMap) (headings : Option ℕ) (text : List ℕ) (c : Updates)
-    → IfSome (held name) (λ bytes. text ≡ bytes) → IsTextOfUpdates m headings text c
-    → AreUpdatesTold held (Some name) (record { map = m; headings = headings }) c
-updates_by_text held name m None text c read h = record {
+updates_by_text : (held : Told) (name : List ℕ) (states : ℕ) (m : CellMap) (headings : Option ℕ) (text : List ℕ) (c : Updates)
+    → IfSome (held name) (λ bytes. text ≡ bytes) → IsTextOfUpdates states m headings text c
+    → AreUpdatesTold held (Some name) (record { states = states; map = m; headings = headings }) c
+updates_by_text held name states m None text c read h = record {
   told = writes_alone c.batches;
-  says = (text, read, lines_say m None text (writes_alone c.batches) h.0);
+  says = (text, read, lines_say states m None text (writes_alone c.batches) h.0);
   batches = alone_are c.batches;
   moves = inl (h.1, alone_no_places c.batches);
   count = length-map c.batches (λ batch. map (λ w. inl w) batch);
 }
-updates_by_text held name m (Some n) text c read h =
+updates_by_text held name states m (Some n) text c read h =
     let t = h.2 in
-    let on = places_on_map m n t.0 (lines_with_fields (lines text)) t.1 in
+    let on = places_on_map states m n t.0 (lines_with_fields (lines text)) t.1 in
     record {
       told = t.0;
-      says = (text, read, lines_say m (Some n) text t.0 t.1);
+      says = (text, read, lines_say states m (Some n) text t.0 t.1);
       batches = t.2;
       moves = inr (record {
         moves = h.1 ∙ ap Some t.3;
@@ -216,7 +216,7 @@ updates_told held None s c h = record {
   moves = inl (ap (λ (d : Updates). d.moves) h, tt);
   count = ap (λ (d : Updates). length d.batches) (sym h);
 }
-updates_told held (Some name) s c h = updates_by_text held name s.map s.headings h.0 c h.1.told h.2
+updates_told held (Some name) s c h = updates_by_text held name s.states s.map s.headings h.0 c h.1.told h.2
 
 -- map updates whose change file may give no places have none
 pub stays : (held : Told) (changes : Option (List ℕ)) (s : Scope) (c : Updates) → AreUpdatesTold held changes s c

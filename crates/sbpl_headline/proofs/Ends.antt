@@ -1,5 +1,5 @@
 -- The start and the goal that words give are what the words say.
-use Rattle.std.proofs.Common.{◌≡◌, ◌&&◌, ◌/◌, ℕ, ℤ, pos, negsuc, nat_le, List, [], ◌∷◌, Option, Some, None, IfSome}
+use Rattle.std.proofs.Common.{◌≡◌, ◌&&◌, ◌/◌, ℕ, ℤ, pos, negsuc, nat_lt, List, [], ◌∷◌, Option, Some, None, IfSome}
 use Rattle.std.proofs.Common.{option_map, unwrap_or, Result, Ok, Err, refl, sym, ap, subst, ◌∙◌}
 use Rattle.std.specs.Prelude.{int_le, option_and_then}
 use Rattle.std.specs.List.{AllZip, slice_split}
@@ -70,10 +70,10 @@ pose_given (Some w) own end h =
 
 -- ---- squares
 
-index_read : (read : Result ℤ NumFault) (n : ℕ) → index_in read ≡ Some n → read ≡ Ok (pos n)
-index_read (Ok (pos k)) n h = ap (λ (m : ℕ). Ok (pos m)) (cond_some (nat_le k 8388607) k n h).1
-index_read (Ok (negsuc k)) n h = absurd (none-some n h)
-index_read (Err fault) n h = absurd (none-some n h)
+index_read : (states : ℕ) (read : Result ℤ NumFault) (n : ℕ) → index_in states read ≡ Some n → read ≡ Ok (pos n)
+index_read states (Ok (pos k)) n h = ap (λ (m : ℕ). Ok (pos m)) (cond_some (nat_lt k states) k n h).1
+index_read states (Ok (negsuc k)) n h = absurd (none-some n h)
+index_read states (Err fault) n h = absurd (none-some n h)
 
 two : (x y : Option ℕ) (c : given.Square)
     → option_and_then (λ a. option_map (λ b. record { x = a; y = b }) y) x ≡ Some c → (x ≡ Some c.x) × (y ≡ Some c.y)
@@ -83,16 +83,16 @@ two (Some a) (Some b) c h =
     let same : ◌≡◌ {A = given.Square} (record { x = a; y = b }) c = same_Some _ c h in
     (ap (λ (q : given.Square). Some q.x) same, ap (λ (q : given.Square). Some q.y) same)
 
-square_said : (parts : List (List ℕ)) (c : given.Square) → square_in parts ≡ Some c
+square_said : (states : ℕ) (parts : List (List ℕ)) (c : given.Square) → square_in states parts ≡ Some c
     → AllZip Means (number (pos c.x) ∷ number (pos c.y) ∷ []) parts
-square_said [] c h = absurd (none-some c h)
-square_said (x ∷ []) c h = absurd (none-some c h)
-square_said (x ∷ y ∷ []) c h =
-    let each = two (index_in (whole_of x)) (index_in (whole_of y)) c h in (
-      whole_says x (pos c.x) (index_read (whole_of x) c.x each.0),
-      (whole_says y (pos c.y) (index_read (whole_of y) c.y each.1), tt),
+square_said states [] c h = absurd (none-some c h)
+square_said states (x ∷ []) c h = absurd (none-some c h)
+square_said states (x ∷ y ∷ []) c h =
+    let each = two (index_in states (whole_of x)) (index_in states (whole_of y)) c h in (
+      whole_says x (pos c.x) (index_read states (whole_of x) c.x each.0),
+      (whole_says y (pos c.y) (index_read states (whole_of y) c.y each.1), tt),
     )
-square_said (x ∷ y ∷ more ∷ rest) c h = absurd (none-some c h)
+square_said states (x ∷ y ∷ more ∷ rest) c h = absurd (none-some c h)
 
 -- the square of the state of a cell on the map is that cell
 square_back : (e : NavEnvironment) (c : given.Square) → IsSquareOn e c
@@ -103,16 +103,16 @@ square_back e c on =
     ap by_x (mod-mul-add c.y e.width c.x on.0) ∙ ap by_y (div-mul-add c.y e.width c.x on.0)
 
 -- the square in a file's place is what its word says, and where there is no word it is the file's
-pub square_given : (e : NavEnvironment) (word : Option (List ℕ)) (own : ℕ) (end : Option given.Square)
-    → IfSome end (IsSquareOn e) → square_by word ≡ Some end
+pub square_given : (e : NavEnvironment) (states : ℕ) (word : Option (List ℕ)) (own : ℕ) (end : Option given.Square)
+    → IfSome end (IsSquareOn e) → square_by states word ≡ Some end
     → IsGiven said_square word (square_of e.width own) (square_of e.width (option_map_or (square_state e.width) end own))
-square_given e None own end on h =
+square_given e states None own end on h =
     subst (λ (o : Option given.Square). square_of e.width (option_map_or (square_state e.width) o own) ≡ square_of e.width own)
     (same_Some {A = Option given.Square} None end h) refl
-square_given e (Some w) own end on h =
-    let found = some_read (square_in (slice_split is_comma w)) end h in
+square_given e states (Some w) own end on h =
+    let found = some_read (square_in states (slice_split is_comma w)) end h in
     let there : IsSquareOn e found.0 = subst (λ (o : Option given.Square). IfSome o (IsSquareOn e)) found.2 on in
     subst (λ (o : Option given.Square). AllZip Means (said_square (square_of e.width (option_map_or (square_state e.width) o
     own))) (slice_split is_comma w)) (sym found.2)
     (subst (λ (c : Square). AllZip Means (said_square c) (slice_split is_comma w)) (sym (square_back e found.0 there))
-    (square_said (slice_split is_comma w) found.0 found.1))
+    (square_said states (slice_split is_comma w) found.0 found.1))

@@ -116,9 +116,10 @@ short_said : (e : Environment) (cells : List ℕ)
 short_said e cells = rw (costs_said cells) refl
 
 -- the words of an environment file say its numbers
-pub environment_says : (text : List ℕ) (e : Environment) (cells : List ℕ) → environments.IsTextOf text e cells
+pub environment_says : (states : ℕ) (text : List ℕ) (e : Environment) (cells : List ℕ)
+    → environments.IsTextOf states text e cells
     → IsEnvironmentText e cells text
-environment_says text e cells h =
+environment_says states text e cells h =
     let full = environments.spelled (environments.spelled_headings e.headings) e cells in
     let short = environments.spelled [] e cells in
     elim h.tokens [
@@ -211,10 +212,10 @@ grid_said : (e : NavEnvironment) (cells : List ℕ)
 grid_said e cells = rw (costs_said cells) refl
 
 -- the words of the environment file of a grid say its numbers and its costs
-pub grid_says : (text : List ℕ) (e : NavEnvironment) (m : CellMap) (told : List (List Given)) (k : ℕ)
-    → grids.IsTextOf text e m.costs → m.width ≡ e.width → m.height ≡ e.height
+pub grid_says : (states : ℕ) (text : List ℕ) (e : NavEnvironment) (m : CellMap) (told : List (List Given)) (k : ℕ)
+    → grids.IsTextOf states text e m.costs → m.width ≡ e.width → m.height ≡ e.height
     → IsGridText e.obsthresh (square_of e.width e.start) (square_of e.width e.end) (map_with m told k) text
-grid_says text e m told k h wide high =
+grid_says states text e m told k h wide high =
     let says : Says (grid_file e.width e.height e m.costs) text =
     subst (λ l. Says l text) (grid_said e m.costs) (says_tokens (grids.spelled e m.costs) text h.tokens) in
     subst₂ (λ width height. Says (grid_file width height e m.costs) text) (sym wide) (sym high) says

@@ -89,8 +89,9 @@ plan_shown rest before after old p start goal start_by goal_by ask away done =
     let on_map : IsPoseOnMap w.env w.env.start × IsPoseOnMap w.env w.env.end =
     subst (λ (e : Environment). IsPoseOnMap e e.start × IsPoseOnMap e e.end) (sym is)
     (ends_on_map p.sources file stands.environment given) in
-    let t : AreUpdatesTold before.held p.changes (scope_of moving w) planned.updates =
-    updates_told before.held p.changes (scope_of moving w) planned.updates planned.changes_say in
+    let scope = scope_of p.sources.states moving w in
+    let t : AreUpdatesTold before.held p.changes scope planned.updates =
+    updates_told before.held p.changes scope planned.updates planned.changes_say in
     let wide : w.map.width ≡ w.env.width = ap (λ (m : CellMap). m.width) says.map in
     let goal_is : IsPlaceOf w.env w.env.end (place_of w.env planned.plans.goal) =
     place_of_pose w.env many w.env.end planned.plans.goal on_map.1 planned.plans.goal_is in
@@ -112,7 +113,7 @@ plan_shown rest before after old p start goal start_by goal_by ask away done =
       environment_read = (
         says.environment.text,
         says.environment.read.told,
-        rw says.map (environment_says says.environment.text file says.cells stands),
+        rw says.map (environment_says p.sources.states says.environment.text file says.cells stands),
       );
       primitives_read = (
         says.primitives.text,
@@ -129,22 +130,24 @@ plan_shown rest before after old p start goal start_by goal_by ask away done =
           (costs_told w.map t.told planned.updates t.batches) p.search p.outputs done.records old [] planned.plans
           ask_of refl refl (place_of w.env planned.plans.goal) refl
           (λ now m is_world has costs. keeps (over_map w now) is_world m costs has)
-          (λ k. starts_say before.held p.changes moving w planned.updates t w.map planned.plans.start k many on_map.0 wide
-          planned.plans.start_is)
+          (λ k. starts_say before.held p.changes p.sources.states moving w planned.updates t w.map planned.plans.start k many
+          on_map.0 wide planned.plans.start_is)
           before after away done.report t.says);
     }
 
 -- plans on the grid of these words were made and reported
 nav_shown : (rest : List (List ℕ)) (before after : DeskState) (old : List Entry) (n : NavJob)
-    (start goal : Option (List ℕ)) → square_by start ≡ Some n.sources.start → square_by goal ≡ Some n.sources.goal
+    (start goal : Option (List ℕ)) → square_by n.sources.states start ≡ Some n.sources.start
+    → square_by n.sources.states goal ≡ Some n.sources.goal
     → Ask rest (n.sources.env ∷ []) (asked_by n.changes start goal 0 n.search) → NoDashes n.outputs
     → IsReported before after old (grid_files n.sources) n.changes n.search n.outputs → IsPlannedOnGrid rest before after
 nav_shown rest before after old n start goal start_by goal_by ask away done =
     let planned = done.planned in
     let w : GridWorld = planned.world in
     let says = planned.says in
-    let t : AreUpdatesTold before.held n.changes (grid_scope w) planned.updates =
-    updates_told before.held n.changes (grid_scope w) planned.updates planned.changes_say in
+    let scope = grid_scope n.sources.states w in
+    let t : AreUpdatesTold before.held n.changes scope planned.updates =
+    updates_told before.held n.changes scope planned.updates planned.changes_say in
     let wide : w.map.width ≡ w.env.width = ap (λ (m : CellMap). m.width) says.map in
     let high : w.map.height ≡ w.env.height = ap (λ (m : CellMap). m.height) says.map in
     let costs : w.map.costs ≡ says.cells = ap (λ (m : CellMap). m.costs) says.map in
@@ -166,19 +169,19 @@ nav_shown rest before after old n start goal start_by goal_by ask away done =
         says.read.told,
         subst (λ (e : NavEnvironment). IsGridText e.obsthresh (square_of file.width file.start)
             (square_of file.width file.end) (map_with w.map t.told 0) says.text) (sym is)
-            (grid_says says.text file w.map t.told 0 (rw costs stands) (wide ∙ ap (λ (e : NavEnvironment). e.width) is)
+            (grid_says n.sources.states says.text file w.map t.told 0 (rw costs stands) (wide ∙ ap (λ (e : NavEnvironment). e.width) is)
             (high ∙ ap (λ (e : NavEnvironment). e.height) is)),
       );
       start = square_of w.env.width w.env.start;
       start_is = subst (λ (e : NavEnvironment). IsGiven said_square start (square_of file.width file.start)
           (square_of e.width e.start)) (sym is)
-          (square_given file start file.start n.sources.start given.0 start_by);
+          (square_given file n.sources.states start file.start n.sources.start given.0 start_by);
       goal = square_of w.env.width w.env.end;
       goal_is = subst (λ (e : NavEnvironment). IsGiven said_square goal (square_of file.width file.end)
           (square_of e.width e.end)) (sym is)
-          (square_given file goal file.end n.sources.goal given.1 goal_by);
+          (square_given file n.sources.states goal file.end n.sources.goal given.1 goal_by);
       plans = plans_on_grid w wide high planned.updates
-          (stays before.held n.changes (grid_scope w) planned.updates t refl) t.told
+          (stays before.held n.changes scope planned.updates t refl) t.told
           (as_many t.told planned.updates t.count) (costs_told w.map t.told planned.updates t.batches) n.search n.outputs
           done.records old [] planned.plans ask_of refl refl before after away done.report
           t.says;

@@ -115,26 +115,26 @@ abbrev last_move : List (List Given) → ℕ → Option Place
 last_move told k = last_or None (filter_map (λ (p : Option Place). p) (take k (map place_of told)))
 
 -- it is on the map of the lattice
-last_move_on_map : (moving : Bool) (w : World) (c : Updates) (told : List (List Given)) (k : ℕ)
-    → HasPlacesOf (scope_of moving w) c told → IsPlaceOnMap w.map w.env.headings (last_move told k)
-last_move_on_map moving w c told k has =
+last_move_on_map : (limit : ℕ) (moving : Bool) (w : World) (c : Updates) (told : List (List Given)) (k : ℕ)
+    → HasPlacesOf (scope_of limit moving w) c told → IsPlaceOnMap w.map w.env.headings (last_move told k)
+last_move_on_map limit moving w c told k has =
     subst (λ n. IsPlaceOnMap w.map n (last_move told k)) (headings_given moving w.env.headings has.headings has.given)
     (last_on_map w.map has.headings None (map place_of told) k tt has.on_map)
 
 -- and a plan starts at its state
-start_by_moves : (moving : Bool) (w : World) (c : Updates) (told : List (List Given)) (s k : ℕ)
-    → HasPlacesOf (scope_of moving w) c told
+start_by_moves : (limit : ℕ) (moving : Bool) (w : World) (c : Updates) (told : List (List Given)) (s k : ℕ)
+    → HasPlacesOf (scope_of limit moving w) c told
     → unwrap_or (option_map (state_number w.env) (last_move told k)) s ≡ start_after lattice_reporting w s c.moves k
-start_by_moves moving w c told s k has =
+start_by_moves limit moving w c told s k has =
     ap (λ o. unwrap_or o s) (sym (last_state (state_number w.env) None (take k (map place_of told))))
     ∙ ap (λ moves. start_after lattice_reporting w s moves k) (sym has.moves)
 
 -- Where a plan starts: at the last place that the lines of the batches before it give, or where the file says.
-pub starts_say : (held : Told) (changes : Option (List ℕ)) (moving : Bool) (w : World) (c : Updates)
-    (t : AreUpdatesTold held changes (scope_of moving w) c) (m : CellMap) (s k : ℕ) → IsHeadingCount w.env.headings
+pub starts_say : (held : Told) (changes : Option (List ℕ)) (limit : ℕ) (moving : Bool) (w : World) (c : Updates)
+    (t : AreUpdatesTold held changes (scope_of limit moving w) c) (m : CellMap) (s k : ℕ) → IsHeadingCount w.env.headings
     → IsPoseOnMap w.env w.env.start → w.map.width ≡ w.env.width → IsStateOf w.env w.env.start s
     → Starts w.env (map_with m t.told k) (states.place_of w.env (start_after lattice_reporting w s c.moves k))
-starts_say held changes moving w c t m s k many on_map wide start =
+starts_say held changes limit moving w c t m s k many on_map wide start =
     let there = last_given t.told k None in
     let At : Option Place → ℕ → Type 0 = λ o n. MatchOption o (IsPlaceOf w.env w.env.start (states.place_of w.env n))
     (λ p. states.place_of w.env n ≡ p) in
@@ -143,6 +143,6 @@ starts_say held changes moving w c t m s k many on_map wide start =
           let nowhere = there ∙ ap (λ places. last_or None places) (no_places t.told k none.1) in
           subst₂ At (sym nowhere) (ap (λ moves. start_after lattice_reporting w s moves k) (sym none.0))
           (starts_by w None s many on_map wide start tt)
-      | inr has ↦ subst₂ At (sym there) (start_by_moves moving w c t.told s k has)
-          (starts_by w (last_move t.told k) s many on_map wide start (last_move_on_map moving w c t.told k has))
+      | inr has ↦ subst₂ At (sym there) (start_by_moves limit moving w c t.told s k has)
+          (starts_by w (last_move t.told k) s many on_map wide start (last_move_on_map limit moving w c t.told k has))
     ]

@@ -16,7 +16,7 @@ use Rattle.sbpl_cost.specs.States.{place_of, state_count}
 use Rattle.sbpl_cost.specs.World.{World, IsWorld}
 use Rattle.sbpl_cost.specs.Arc.{column_from, cost_from, EndsIn, IsFreeAt, HasLatticeArcs}
 use Rattle.sbpl_cost.specs.Lattices.{network_of}
-use Rattle.sbpl_heur.specs.Walks.{IsLeastCost, Moves, LiesFrom, IsCellArc, IsCellBound}
+use Rattle.sbpl_heur.specs.Walks.{IsLeastCost, Moves, LiesFrom, IsCellArc, IsCellWeight, IsCellBound}
 use Rattle.sbpl_heur.specs.declared.hop.Hop.{Hop}
 use Rattle.sbpl_heur.specs.Hops.{AreHops}
 use Rattle.sbpl_heur.specs.Bests.{cell_of, IsBest}
@@ -158,8 +158,8 @@ module _ (w : World) (is_world : IsWorld w) (hops : List Hop) (are : AreHops w.e
 
   module _ (goal x y : ℕ) where
     falls_by_arc : (weight : ℕ) → IsCellArc w.env w.prims.items w.map (s / w.env.headings) (t / w.env.headings) weight
-        → weight ≤ c → IsCellBound w.env w.prims.items w.map goal (s / w.env.headings) x
-        → IsCellBound w.env w.prims.items w.map goal (t / w.env.headings) y → x ≤ c + y
+        → weight ≤ c → IsCellWeight w.env w.prims.items w.map goal (s / w.env.headings) x
+        → IsCellWeight w.env w.prims.items w.map goal (t / w.env.headings) y → x ≤ c + y
     falls_by_arc weight arc low (inl here) (inl there) =
         let way = here.least (t / w.env.headings ∷ there.cells) (weight + y) (weight, y, arc, there.walk, refl) in
         omega arith
@@ -170,30 +170,41 @@ module _ (w : World) (is_world : IsWorld w) (hops : List Hop) (are : AreHops w.e
     falls_by_arc weight arc low (inr here) (inr there) =
         let most = there.1.greatest here.1.cell x here.1.inside here.1.attained in omega arith
 
-    same_bound : IsCellBound w.env w.prims.items w.map goal (s / w.env.headings) x
-        → IsCellBound w.env w.prims.items w.map goal (s / w.env.headings) y → x ≤ y
-    same_bound (inl here) (inl there) = here.least there.cells y there.walk
-    same_bound (inl here) (inr there) = absurd (there.0 here.cells x here.walk)
-    same_bound (inr here) (inl there) = absurd (here.0 there.cells y there.walk)
-    same_bound (inr here) (inr there) = there.1.greatest here.1.cell x here.1.inside here.1.attained
+    same_weight : IsCellWeight w.env w.prims.items w.map goal (s / w.env.headings) x
+        → IsCellWeight w.env w.prims.items w.map goal (s / w.env.headings) y → x ≤ y
+    same_weight (inl here) (inl there) = here.least there.cells y there.walk
+    same_weight (inl here) (inr there) = absurd (there.0 here.cells x here.walk)
+    same_weight (inr here) (inl there) = absurd (here.0 there.cells y there.walk)
+    same_weight (inr here) (inr there) = there.1.greatest here.1.cell x here.1.inside here.1.attained
 
-    -- along a free arc the cell bound falls by the arc's cost at most
-    pub bound_falls : IsCellBound w.env w.prims.items w.map goal (s / w.env.headings) x
-        → IsCellBound w.env w.prims.items w.map goal (t / w.env.headings) y → x ≤ c + y
-    bound_falls here there = elim (stays_or_moves p.dx p.dy) [
+    -- along a free arc the cell's weight falls by the arc's cost at most
+    weight_falls : IsCellWeight w.env w.prims.items w.map goal (s / w.env.headings) x
+        → IsCellWeight w.env w.prims.items w.map goal (t / w.env.headings) y → x ≤ c + y
+    weight_falls here there = elim (stays_or_moves p.dx p.dy) [
       | inl both ↦
-          let low = same_bound here
-          (subst (λ b. IsCellBound w.env w.prims.items w.map goal b y) (same_cell both) there) in omega arith
+          let low = same_weight here
+          (subst (λ b. IsCellWeight w.env w.prims.items w.map goal b y) (same_cell both) there) in omega arith
       | inr moves ↦ let arc = arc_below moves in falls_by_arc arc.0 arc.1 arc.2 here there
     ]
+
+  -- and so does the cell bound
+  pub bound_falls : (goal x y : ℕ) → IsCellBound w.env w.prims.items w.map goal (s / w.env.headings) x
+      → IsCellBound w.env w.prims.items w.map goal (t / w.env.headings) y → x ≤ c + y
+  bound_falls goal x y here there =
+      let low = weight_falls goal here.weight there.weight here.weighs there.weighs in
+      omega (arith, low, here.lesser, there.lesser)
 
 module _ (w : World) (is_world : IsWorld w) (hops : List Hop) (are : AreHops w.env w.prims.items hops)
     (arcs : HasLatticeArcs (network_of w) w) (gaps : HasGaps (network_of w)) (goal : ℕ)
     (inside : goal < state_count w.env) (h : ℕ → ℕ) (best : IsBest w goal h) where
+  no_weight : (weight : ℕ)
+      → IsCellWeight w.env w.prims.items w.map (cell_of w.env goal) (cell_of w.env goal) weight → weight ≡ 0
+  no_weight weight (inl low) = let most = low.least [] 0 (refl, refl) in omega arith
+  no_weight weight (inr cut) = absurd (cut.0 [] 0 (refl, refl))
+
   none_at_goal : (bound : ℕ)
       → IsCellBound w.env w.prims.items w.map (cell_of w.env goal) (cell_of w.env goal) bound → bound ≡ 0
-  none_at_goal bound (inl low) = let most = low.least [] 0 (refl, refl) in omega arith
-  none_at_goal bound (inr cut) = absurd (cut.0 [] 0 (refl, refl))
+  none_at_goal bound is = omega (arith, no_weight is.weight is.weighs, is.lesser)
 
   below : (s : ℕ) → s < (network_of w).states → s < state_count w.env
   below s state = subst (λ n. s < n) arcs.states state

@@ -159,7 +159,7 @@ module _ (b : Board) (is : IsBoard b) where
         (omega (arith, least, arc.step.product), omega (arith, most, arc.step.product))
 
   -- there are four headings or more
-  pub few_cells : cell_count b ≤ 2097152
+  pub few_cells : cell_count b ≤ 67108864
   few_cells =
       let cells : b.env.width * b.env.height ≤ b.env.width * b.env.height = omega arith in
       let count : b.env.width * b.env.height * 4 ≤ b.env.width * b.env.height * b.env.headings =

@@ -12,6 +12,7 @@ use Rattle.sbpl_cost.specs.World.{World, IsWorld}
 use Rattle.sbpl_cost.specs.Arc.{HasLatticeArcs}
 use Rattle.sbpl_cost.specs.Lattices.{network_of, states_are}
 use Rattle.sbpl_heur.specs.declared.hop.Hop.{Hop}
+use Rattle.sbpl_heur.specs.declared.cap.TheConstants.{MOST}
 use Rattle.sbpl_heur.specs.Hops.{AreHops}
 use Rattle.sbpl_heur.specs.Boards.{AreLight, Board, IsBoard, cell_count, map_of}
 use Rattle.sbpl_heur.specs.Followed.{Walking, HasLeast}
@@ -20,7 +21,7 @@ use Rattle.sbpl_heur.specs.Caps.{IsFarthestReached, IsCapped, AreTurns, capped_t
 use Rattle.sbpl_heur.specs.Bests.{Table, Fits, AreParts, IsBest, IsTable, IsGuide, distance_in}
 use Rattle.sbpl_heur.proofs.StateCells.{state_below, cell_below}
 use Rattle.sbpl_heur.proofs.Splitting.{gap_split}
-use Rattle.sbpl_heur.proofs.Walking.{light_hops, cell_bound, bound_small}
+use Rattle.sbpl_heur.proofs.Walking.{light_hops, cell_bound}
 use Rattle.sbpl_heur.proofs.Arriving.{consistent}
 
 -- the primitives of a world are light
@@ -51,11 +52,12 @@ module _ (w : World) (is_world : IsWorld w) (arcs : HasLatticeArcs (network_of w
   cell_inside s state = omega (arith, cell_below w s w.env.headings refl some state, cells_are)
 
   cell_value : (a : ℕ) → a < w.map.width * w.map.height
-      → slice_index b.cells a ≡ capped_to w goal capped.far a (slice_index distances a)
+      → slice_index b.cells a ≡ capped_to w goal (min capped.far MOST) a (slice_index distances a)
   cell_value a within = capped.values a (omega (arith, within, entries))
 
   state_value : (s : ℕ) → s < (network_of w).states
-      → distance_in b s ≡ max (min (slice_index distances (s / w.env.headings)) capped.far) ((network_of w).gap s goal)
+      → distance_in b s
+      ≡ max (min (slice_index distances (s / w.env.headings)) (min capped.far MOST)) ((network_of w).gap s goal)
   state_value s state =
       let n = w.env.headings in
       let cell = cell_value (s / n) (cell_inside s state) in
@@ -67,7 +69,7 @@ module _ (w : World) (is_world : IsWorld w) (arcs : HasLatticeArcs (network_of w
 
   pub is_best : IsBest w goal (distance_in b)
   is_best = record {
-    bound = λ s. min (slice_index distances (s / w.env.headings)) capped.far;
+    bound = λ s. min (slice_index distances (s / w.env.headings)) (min capped.far MOST);
     bounds = λ s state.
         cell_bound w.env w.prims.items w.map hops are (goal / w.env.headings) (slice_index distances) least capped.far
         (s / w.env.headings) farthest
@@ -85,11 +87,8 @@ module _ (w : World) (is_world : IsWorld w) (arcs : HasLatticeArcs (network_of w
   cell_small a = elim (cases_lt a (length b.cells)) [
     | inl in_list ↦
         let within : a < w.map.width * w.map.height = omega (arith, in_list, size, cells_are) in
-        let bound =
-        bound_small w.env w.prims.items w.map hops are (goal / w.env.headings) (slice_index distances) least
-        capped.far a farthest within in
         let gap = gap_small a (goal % w.env.headings) within (mod_below goal w.env.headings some) in
-        omega (arith, cell_value a within, bound, gap)
+        omega (arith, cell_value a within, gap)
     | inr beyond ↦ let none : slice_index b.cells a ≡ 0 = get_or_past b.cells a 0 beyond in omega arith
   ]
 

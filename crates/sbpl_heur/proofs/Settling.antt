@@ -67,18 +67,18 @@ module _ (s : Walking) (is : IsWalking s) where
     reached (suc fuel) a low inside near =
         reached_at a inside near (λ c less within close. reached fuel c (omega arith) within close)
 
-    small : (a : ℕ) → a < cell_count s.board → distance s a < FAR → distance s a < 2 ^ 55
+    small : (a : ℕ) → a < cell_count s.board → distance s a < FAR → distance s a < 2 ^ 60
     small a inside near =
         let there = reached (distance s a) a (omega arith) inside near in
         let most = count_most (distance s) (distance s a) (cell_count s.board) in
-        let few : count_below (distance s) (distance s a) (cell_count s.board) ≤ 2097152 =
+        let few : count_below (distance s) (distance s a) (cell_count s.board) ≤ 67108864 =
         omega (arith, few_cells s.board is.board) in
         let product = mul-le-mul_right 4294967295 few in
         omega (arith, there.few, product)
 
     -- no walk weighs less
     least : (cells : List ℕ) (a weight : ℕ) → a < cell_count s.board → IsWay a cells weight
-        → (distance s a < 2 ^ 55) × (distance s a ≤ weight)
+        → (distance s a < 2 ^ 60) × (distance s a ≤ weight)
     least [] a weight inside walk =
         let zero_is : distance s a ≡ 0 = ap (distance s) walk.0 ∙ is.at_goal in
         (omega arith, omega arith)

@@ -8,10 +8,11 @@ use Rattle.sbpl_cost.specs.sbpl_mprim.declared.prim.Primitive.{Primitive}
 use Rattle.sbpl_cost.specs.sbpl_map.CellMap.{CellMap}
 use Rattle.sbpl_cost.specs.PrimitiveCost.{primitive_cost, most_cost}
 use Rattle.sbpl_heur.specs.declared.hop.Hop.{Hop}
-use Rattle.sbpl_heur.specs.Walks.{IsCellStep, IsCellArc, IsWalk, IsLeastWalk, IsFarthest, HasNoWalk, IsCellBound}
+use Rattle.sbpl_heur.specs.Walks.{IsCellStep, IsCellArc, IsWalk, IsLeastWalk, IsFarthest, HasNoWalk, IsCellWeight, IsCellBound}
 use Rattle.sbpl_heur.specs.Hops.{AreHops}
 use Rattle.sbpl_heur.specs.Boards.{AreLight}
 use Rattle.sbpl_heur.specs.Weights.{IsHopArc, IsHopWalk, AreLeast}
+use Rattle.sbpl_heur.specs.declared.cap.TheConstants.{MOST}
 use Rattle.sbpl_heur.specs.Caps.{IsFarthestReached}
 
 pub light_hops : (e : Environment) (prims : List Primitive) (hops : List Hop)
@@ -76,7 +77,7 @@ module _ (e : Environment) (prims : List Primitive) (m : CellMap) (hops : List H
   module _ (goal : ℕ) (d : ℕ → ℕ) (found : AreLeast e m hops goal d) where
     -- a walk shows that the cell is reached, and weighs no less than its distance
     at_most : (a : ℕ) → a < m.width * m.height → (cells : List ℕ) (weight : ℕ) → IsWalk e prims m a cells goal weight
-        → (d a < 2 ^ 55) × (d a ≤ weight)
+        → (d a < 2 ^ 60) × (d a ≤ weight)
     at_most a inside cells weight walk = found.least a cells weight inside (from_walk cells goal a weight walk)
 
     pub least_walk : (a : ℕ) → a < m.width * m.height → d a < FAR → IsLeastWalk e prims m goal a (d a)
@@ -119,10 +120,10 @@ module _ (e : Environment) (prims : List Primitive) (m : CellMap) (hops : List H
           }
         ]
 
-    -- a distance capped at the greatest of a reached cell is the cell bound
-    pub cell_bound : (far a : ℕ) → IsFarthestReached d (m.width * m.height) far → a < m.width * m.height
-        → IsCellBound e prims m goal a (min (d a) far)
-    cell_bound far a is inside = elim (cases_lt (d a) FAR) [
+    -- a distance capped at the greatest of a reached cell is the cell's weight
+    cell_weight : (far a : ℕ) → IsFarthestReached d (m.width * m.height) far → a < m.width * m.height
+        → IsCellWeight e prims m goal a (min (d a) far)
+    cell_weight far a is inside = elim (cases_lt (d a) FAR) [
       | inl near ↦
           let whole : min (d a) far ≡ d a = omega (arith, is.none_above a inside near) in
           inl (subst (λ x. IsLeastWalk e prims m goal a x) (sym whole) (least_walk a inside near))
@@ -131,14 +132,8 @@ module _ (e : Environment) (prims : List Primitive) (m : CellMap) (hops : List H
           inr (no_walk a inside beyond, subst (λ x. IsFarthest e prims m goal x) (sym cut) (farthest_is far is))
     ]
 
-    -- it is small
-    pub bound_small : (far a : ℕ) → IsFarthestReached d (m.width * m.height) far → a < m.width * m.height
-        → min (d a) far < 2 ^ 55
-    bound_small far a is inside =
-        let small : far < 2 ^ 55 = elim is.attained [
-          | inl none ↦ omega arith
-          | inr (b, within, same, near) ↦
-              let some = found.attained b within (omega (arith, same, near)) in
-              omega (arith, same, (at_most b within some.0 (d b) (to_walk some.0 goal b (d b) some.1)).0)
-        ] in
-        omega arith
+    -- and capped at MOST too it is the cell bound
+    pub cell_bound : (far a : ℕ) → IsFarthestReached d (m.width * m.height) far → a < m.width * m.height
+        → IsCellBound e prims m goal a (min (d a) (min far MOST))
+    cell_bound far a is inside =
+        record { weight = min (d a) far; weighs = cell_weight far a is inside; lesser = omega arith }

@@ -37,8 +37,8 @@ IsKnown b s = s < length b.cells * length b.turns
 
 -- there are few states, and the goal is one of them; no value is great
 pub record IsTable (b : Table) : Type 0 where
-  pub few_cells : length b.cells ≤ 2 ^ 23
-  pub few_turns : length b.turns ≤ 2 ^ 23
+  pub few_cells : length b.cells ≤ 2 ^ 28
+  pub few_turns : length b.turns ≤ 2 ^ 28
   pub goal : IsKnown b b.goal
   pub cells : (i : ℕ) → slice_index b.cells i < 2 ^ 55
   pub turns : (i : ℕ) → slice_index b.turns i < 2 ^ 55

@@ -1,9 +1,10 @@
 -- Walks from cell to cell, and the cell bound.
-use Rattle.std.specs.Prelude.{◌≡◌, ℕ, ℤ, pos, ◌+◌, ◌*◌, ◌/◌, ◌%◌, ◌<◌, ◌≤◌, ◌+ℤ◌, ◌⊎◌, max, List, [], ◌∷◌, slice_get, Some}
+use Rattle.std.specs.Prelude.{◌≡◌, ℕ, ℤ, pos, ◌+◌, ◌*◌, ◌/◌, ◌%◌, ◌<◌, ◌≤◌, ◌+ℤ◌, ◌⊎◌, min, max, List, [], ◌∷◌, slice_get, Some}
 use Rattle.sbpl_cost.specs.sbpl_cfg.Environment.{Environment}
 use Rattle.sbpl_cost.specs.sbpl_mprim.declared.prim.Primitive.{Primitive}
 use Rattle.sbpl_cost.specs.sbpl_map.CellMap.{CellMap}
 use Rattle.sbpl_cost.specs.PrimitiveCost.{primitive_cost}
+use Rattle.sbpl_heur.specs.declared.cap.TheConstants.{MOST}
 
 -- the least cost of the primitives that move by this pair
 pub record IsLeastCost (e : Environment) (prims : List Primitive) (dx dy : ℤ) (cost : ℕ) : Type 0 where
@@ -66,6 +67,12 @@ pub record IsFarthest (e : Environment) (prims : List Primitive) (m : CellMap) (
 abbrev pub HasNoWalk : Environment → List Primitive → CellMap → ℕ → ℕ → Type 0
 HasNoWalk e prims m goal a = (cells : List ℕ) (weight : ℕ) → IsWalk e prims m a cells goal weight → ⊥
 
--- the cell bound of cell a: the least weight of a walk to the goal, or where there is none, the greatest that a cell with a walk has
-abbrev pub IsCellBound : Environment → List Primitive → CellMap → ℕ → ℕ → ℕ → Type 0
-IsCellBound e prims m goal a bound = IsLeastWalk e prims m goal a bound ⊎ (HasNoWalk e prims m goal a × IsFarthest e prims m goal bound)
+-- the weight of cell a: the least weight of a walk to the goal, or where there is none, the greatest that a cell with a walk has
+abbrev pub IsCellWeight : Environment → List Primitive → CellMap → ℕ → ℕ → ℕ → Type 0
+IsCellWeight e prims m goal a weight = IsLeastWalk e prims m goal a weight ⊎ (HasNoWalk e prims m goal a × IsFarthest e prims m goal weight)
+
+-- the cell bound of cell a: the lesser of its weight and MOST
+pub record IsCellBound (e : Environment) (prims : List Primitive) (m : CellMap) (goal a bound : ℕ) : Type 0 where
+  pub weight : ℕ
+  pub weighs : IsCellWeight e prims m goal a weight
+  pub lesser : bound ≡ min weight MOST

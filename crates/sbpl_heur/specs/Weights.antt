@@ -17,9 +17,9 @@ abbrev pub IsHopWalk : Environment → CellMap → List Hop → ℕ → List ℕ
 IsHopWalk e m hops a [] goal weight = (a ≡ goal) × (weight ≡ 0)
 IsHopWalk e m hops a (b ∷ cells) goal weight = (j : ℕ) × (first : ℕ) × (rest : ℕ) × IsHopArc e m hops a b j first × IsHopWalk e m hops b cells goal rest × (weight ≡ first + rest)
 
--- each cell has the least weight of a walk to the goal, below 2^55, or FAR where there is none
+-- each cell has the least weight of a walk to the goal, below 2^60, or FAR where there is none
 pub record AreLeast (e : Environment) (m : CellMap) (hops : List Hop) (goal : ℕ) (d : ℕ → ℕ) : Type 0 where
   pub goal_inside : goal < m.width * m.height
   pub at_goal : d goal ≡ 0
   pub attained : (a : ℕ) → a < m.width * m.height → d a < FAR → (cells : List ℕ) × IsHopWalk e m hops a cells goal (d a)
-  pub least : (a : ℕ) (cells : List ℕ) (weight : ℕ) → a < m.width * m.height → IsHopWalk e m hops a cells goal weight → (d a < 2 ^ 55) × (d a ≤ weight)
+  pub least : (a : ℕ) (cells : List ℕ) (weight : ℕ) → a < m.width * m.height → IsHopWalk e m hops a cells goal weight → (d a < 2 ^ 60) × (d a ≤ weight)

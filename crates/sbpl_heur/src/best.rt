@@ -19,7 +19,8 @@ use std::marker::Model;
 /// The best heuristic for a goal on a lattice: at each state the greater of two lower bounds on the cost to the goal.
 /// One is the least weight of a walk of cells to the goal's cell on the present map, where a step costs the least
 /// primitive that moves so times one more than the greater of its two cells' costs; cells without a walk have the
-/// greatest bound that a cell with a walk has. The other is the lattice's gap to the goal. Only `build` takes memory.
+/// greatest bound that a cell with a walk has, and no bound is above 2^55 - 1. The other is the lattice's gap to the goal.
+/// Only `build` takes memory.
 #[derive(Drop)]
 pub struct Best {
     goal: u32,
@@ -70,7 +71,7 @@ fn cells_of(env: &Env) -> u32
 /// Writes for each cell the least weight of a walk from it.
 fn weigh(walks: &Walks, distances: &mut Vec<u64>)
     requires size { length distances.old.items ≡ cell_count walks.now.board }
-    requires few { length distances.old.items ≤ 2 ^ 23 }
+    requires few { length distances.old.items ≤ 2 ^ 28 }
     ensures size { length distances.new.items ≡ length distances.old.items }
     ensures weights { (a : ℕ) → a < length distances.old.items
         → slice_index distances.new.items a ≡ distance walks.now a }

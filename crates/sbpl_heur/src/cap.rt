@@ -8,6 +8,10 @@ ghost use Rattle.sbpl_heur.specs.Caps.{IsFarthestReached, IsCapped, AreTurns};
 use sbpl_cost::Lattice;
 use sbpl_serial::{FAR, Graph};
 
+/// The greatest cell bound. A least way of 2^55 milliseconds takes a million years, and so great a bound still leaves room for keys,
+/// which weigh it by the inflation. The lesser of a consistent heuristic and a constant is consistent.
+pub(crate) const MOST: u64 = (1 << 55) - 1;
+
 /// The greatest distance of a cell that was reached, or 0 where none was.
 fn farthest(distances: &[u64]) -> u64
     ensures farthest { IsFarthestReached (slice_index distances.now) (length distances.now) result }
@@ -34,17 +38,17 @@ fn gap_from(lattice: &Lattice, headings: u32, cell: u32, heading: u32, goal: u32
     lattice.gap(cell * headings + heading, goal)
 }
 
-/// Caps each distance at the greatest of a cell that was reached, and raises it to the gap that the cell alone makes.
+/// Caps each distance at the greatest of a cell that was reached, and at `MOST`, and raises it to the gap that the cell alone makes.
 pub(crate) fn cap(lattice: &Lattice, headings: u32, goal: u32, distances: &mut Vec<u64>)
     requires headings { headings ≡ lattice.now.env.headings }
     requires cells { length distances.old.items ≡ lattice.now.env.width * lattice.now.env.height }
     requires sound { IsSound (network_of lattice.now) }
     requires goal { goal < (network_of lattice.now).states }
     requires some { 1 ≤ headings }
-    requires few { length distances.old.items ≤ 2 ^ 23 }
+    requires few { length distances.old.items ≤ 2 ^ 28 }
     ensures capped { IsCapped lattice.now goal distances.old.items distances.new.items }
 {
-    let most = farthest(distances.as_slice());
+    let most = farthest(distances.as_slice()).min(MOST);
     for cell in 0..distances.len() as u32 {
         let gap = gap_from(lattice, headings, cell, goal % headings, goal);
         let distance = &mut distances[cell as usize];

@@ -324,7 +324,7 @@ impl Cells {
     /// The number of cells.
     pub(crate) fn count(&self) -> u32
         ensures value { result ≡ cell_count self.now }
-        ensures few { result ≤ 2 ^ 23 }
+        ensures few { result ≤ 2 ^ 28 }
         ensures kept { IsBoard self.now }
     {
         self.costs.len() as u32

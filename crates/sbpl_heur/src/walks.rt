@@ -58,7 +58,7 @@ impl Model for Walks {
 
 /// The marked cell that the queue advises to take. Where it left some out for want of room, all are listed anew.
 fn advised(marks: &[bool], queue: &mut Buckets, distances: &[u64]) -> Option<u32>
-    requires few { length marks.now ≤ 2 ^ 23 }
+    requires few { length marks.now ≤ 2 ^ 28 }
 {
     let first = queue.first(marks, distances);
     if first.is_some() || !queue.is_short() {
@@ -71,7 +71,7 @@ fn advised(marks: &[bool], queue: &mut Buckets, distances: &[u64]) -> Option<u32
 
 /// Takes a marked cell: the one that the queue advises. Where it advises none, all marks are looked at.
 fn take(marks: &mut Vec<bool>, queue: &mut Buckets, distances: &[u64]) -> Option<u32>
-    requires few { length marks.old.items ≤ 2 ^ 23 }
+    requires few { length marks.old.items ≤ 2 ^ 28 }
     ensures takes { IfSome result (λ cell. Takes marks.old.items marks.new.items cell) }
     ensures none { IfNone result (HasNone marks.old.items) }
     ensures kept { IfNone result (marks.new.items ≡ marks.old.items) }
@@ -104,7 +104,7 @@ fn least_of(marks: &[bool], distances: &[u64]) -> u64 {
 
 /// Puts all marked cells into the queue.
 fn list(marks: &[bool], distances: &[u64], queue: &mut Buckets)
-    requires few { length marks.now ≤ 2 ^ 23 }
+    requires few { length marks.now ≤ 2 ^ 28 }
 {
     for (cell, marked) in marks.iter().enumerate() {
         if *marked {

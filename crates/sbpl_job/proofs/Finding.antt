@@ -120,6 +120,7 @@ long_at command.Plan setting.First = refl
 long_at command.Plan setting.Step = refl
 long_at command.Plan setting.Bound = refl
 long_at command.Plan setting.Budget = refl
+long_at command.Plan setting.States = refl
 long_at command.Plan setting.Labels = refl
 long_at command.Plan setting.LabelsAs = refl
 long_at command.Plan setting.Trace = refl
@@ -134,6 +135,7 @@ long_at command.Check setting.First = refl
 long_at command.Check setting.Step = refl
 long_at command.Check setting.Bound = refl
 long_at command.Check setting.Budget = refl
+long_at command.Check setting.States = refl
 long_at command.Check setting.Labels = refl
 long_at command.Check setting.LabelsAs = refl
 long_at command.Check setting.Trace = refl
@@ -148,6 +150,7 @@ long_at command.Sweep setting.First = refl
 long_at command.Sweep setting.Step = refl
 long_at command.Sweep setting.Bound = refl
 long_at command.Sweep setting.Budget = refl
+long_at command.Sweep setting.States = refl
 long_at command.Sweep setting.Labels = refl
 long_at command.Sweep setting.LabelsAs = refl
 long_at command.Sweep setting.Trace = refl
@@ -162,6 +165,7 @@ long_at command.Demo setting.First = refl
 long_at command.Demo setting.Step = refl
 long_at command.Demo setting.Bound = refl
 long_at command.Demo setting.Budget = refl
+long_at command.Demo setting.States = refl
 long_at command.Demo setting.Labels = refl
 long_at command.Demo setting.LabelsAs = refl
 long_at command.Demo setting.Trace = refl
@@ -176,6 +180,7 @@ long_at command.Nav setting.First = refl
 long_at command.Nav setting.Step = refl
 long_at command.Nav setting.Bound = refl
 long_at command.Nav setting.Budget = refl
+long_at command.Nav setting.States = refl
 long_at command.Nav setting.Labels = refl
 long_at command.Nav setting.LabelsAs = refl
 long_at command.Nav setting.Trace = refl
@@ -190,6 +195,7 @@ long_at command.NavCheck setting.First = refl
 long_at command.NavCheck setting.Step = refl
 long_at command.NavCheck setting.Bound = refl
 long_at command.NavCheck setting.Budget = refl
+long_at command.NavCheck setting.States = refl
 long_at command.NavCheck setting.Labels = refl
 long_at command.NavCheck setting.LabelsAs = refl
 long_at command.NavCheck setting.Trace = refl
@@ -207,6 +213,7 @@ option_at command.Plan setting.First = refl
 option_at command.Plan setting.Step = refl
 option_at command.Plan setting.Bound = refl
 option_at command.Plan setting.Budget = refl
+option_at command.Plan setting.States = refl
 option_at command.Plan setting.Labels = refl
 option_at command.Plan setting.LabelsAs = refl
 option_at command.Plan setting.Trace = refl
@@ -221,6 +228,7 @@ option_at command.Check setting.First = refl
 option_at command.Check setting.Step = refl
 option_at command.Check setting.Bound = refl
 option_at command.Check setting.Budget = refl
+option_at command.Check setting.States = refl
 option_at command.Check setting.Labels = refl
 option_at command.Check setting.LabelsAs = refl
 option_at command.Check setting.Trace = refl
@@ -235,6 +243,7 @@ option_at command.Sweep setting.First = refl
 option_at command.Sweep setting.Step = refl
 option_at command.Sweep setting.Bound = refl
 option_at command.Sweep setting.Budget = refl
+option_at command.Sweep setting.States = refl
 option_at command.Sweep setting.Labels = refl
 option_at command.Sweep setting.LabelsAs = refl
 option_at command.Sweep setting.Trace = refl
@@ -249,6 +258,7 @@ option_at command.Demo setting.First = refl
 option_at command.Demo setting.Step = refl
 option_at command.Demo setting.Bound = refl
 option_at command.Demo setting.Budget = refl
+option_at command.Demo setting.States = refl
 option_at command.Demo setting.Labels = refl
 option_at command.Demo setting.LabelsAs = refl
 option_at command.Demo setting.Trace = refl
@@ -263,6 +273,7 @@ option_at command.Nav setting.First = refl
 option_at command.Nav setting.Step = refl
 option_at command.Nav setting.Bound = refl
 option_at command.Nav setting.Budget = refl
+option_at command.Nav setting.States = refl
 option_at command.Nav setting.Labels = refl
 option_at command.Nav setting.LabelsAs = refl
 option_at command.Nav setting.Trace = refl
@@ -277,6 +288,7 @@ option_at command.NavCheck setting.First = refl
 option_at command.NavCheck setting.Step = refl
 option_at command.NavCheck setting.Bound = refl
 option_at command.NavCheck setting.Budget = refl
+option_at command.NavCheck setting.States = refl
 option_at command.NavCheck setting.Labels = refl
 option_at command.NavCheck setting.LabelsAs = refl
 option_at command.NavCheck setting.Trace = refl
@@ -419,19 +431,22 @@ is_name x t named =
                   | inl h ↦ told x setting.Bound t h
                   | inr e6 ↦ elim (pick (bytes_eq x (name_of setting.Budget)) setting.Budget t _ e6) [
                     | inl h ↦ told x setting.Budget t h
-                    | inr e7 ↦ elim (pick (bytes_eq x (name_of setting.Labels)) setting.Labels t _ e7) [
-                      | inl h ↦ told x setting.Labels t h
-                      | inr e8 ↦ elim (pick (bytes_eq x (name_of setting.LabelsAs)) setting.LabelsAs t _ e8) [
-                        | inl h ↦ told x setting.LabelsAs t h
-                        | inr e9 ↦ elim (pick (bytes_eq x (name_of setting.Trace)) setting.Trace t _ e9) [
-                          | inl h ↦ told x setting.Trace t h
-                          | inr e10 ↦ elim (pick (bytes_eq x (name_of setting.Incumbent)) setting.Incumbent t _ e10) [
-                            | inl h ↦ told x setting.Incumbent t h
-                            | inr e11 ↦ elim (pick (bytes_eq x (name_of setting.Start)) setting.Start t _ e11) [
-                              | inl h ↦ told x setting.Start t h
-                              | inr e12 ↦ elim (pick (bytes_eq x (name_of setting.Goal)) setting.Goal t _ e12) [
-                                | inl h ↦ told x setting.Goal t h
-                                | inr e13 ↦ absurd (not_none e13)
+                    | inr e7 ↦ elim (pick (bytes_eq x (name_of setting.States)) setting.States t _ e7) [
+                      | inl h ↦ told x setting.States t h
+                      | inr e8 ↦ elim (pick (bytes_eq x (name_of setting.Labels)) setting.Labels t _ e8) [
+                        | inl h ↦ told x setting.Labels t h
+                        | inr e9 ↦ elim (pick (bytes_eq x (name_of setting.LabelsAs)) setting.LabelsAs t _ e9) [
+                          | inl h ↦ told x setting.LabelsAs t h
+                          | inr e10 ↦ elim (pick (bytes_eq x (name_of setting.Trace)) setting.Trace t _ e10) [
+                            | inl h ↦ told x setting.Trace t h
+                            | inr e11 ↦ elim (pick (bytes_eq x (name_of setting.Incumbent)) setting.Incumbent t _ e11) [
+                              | inl h ↦ told x setting.Incumbent t h
+                              | inr e12 ↦ elim (pick (bytes_eq x (name_of setting.Start)) setting.Start t _ e12) [
+                                | inl h ↦ told x setting.Start t h
+                                | inr e13 ↦ elim (pick (bytes_eq x (name_of setting.Goal)) setting.Goal t _ e13) [
+                                  | inl h ↦ told x setting.Goal t h
+                                  | inr e14 ↦ absurd (not_none e14)
+                                ]
                               ]
                             ]
                           ]
@@ -459,6 +474,7 @@ long_name setting.First = refl
 long_name setting.Step = refl
 long_name setting.Bound = refl
 long_name setting.Budget = refl
+long_name setting.States = refl
 long_name setting.Labels = refl
 long_name setting.LabelsAs = refl
 long_name setting.Trace = refl
@@ -475,6 +491,7 @@ not_dashes setting.First = refl
 not_dashes setting.Step = refl
 not_dashes setting.Bound = refl
 not_dashes setting.Budget = refl
+not_dashes setting.States = refl
 not_dashes setting.Labels = refl
 not_dashes setting.LabelsAs = refl
 not_dashes setting.Trace = refl

@@ -1,5 +1,5 @@
 -- The job that a list of words names.
-use Rattle.std.specs.Prelude.{◌≡◌, ◌^◌, ◌<◌, ◌≤◌, true, false, not, ◌/◌, ◌%◌, ◌&&◌, ◌||◌, Bool, ℕ, ℤ, pos, negsuc, nat_eq, nat_le, int_le, ◌==◌, IfSome, List, [], ◌∷◌, length, map, String, string_bytes, Option, Some, None, option_map, option_and_then, Result, Ok, Err, codes, if◌then◌else◌}
+use Rattle.std.specs.Prelude.{◌≡◌, ◌^◌, ◌<◌, ◌≤◌, true, false, not, ◌/◌, ◌%◌, ◌&&◌, ◌||◌, Bool, ℕ, ℤ, pos, negsuc, nat_eq, nat_le, nat_lt, int_le, ◌==◌, IfSome, List, [], ◌∷◌, length, map, String, string_bytes, Option, Some, None, option_map, option_and_then, Result, Ok, Err, codes, if◌then◌else◌}
 use Rattle.std.specs.List.{list_any, slice_split}
 use Rattle.std.specs.Option.{option_map_or}
 use Rattle.std.specs.Result.{result_ok}
@@ -41,6 +41,17 @@ command_named word =
     else (if bytes_eq word (codes "nav") then Some command.Nav
     else (if bytes_eq word (codes "navcheck") then Some command.NavCheck else None)))))
 
+-- a limit of states, 1 to 2 ^ 28
+abbrev pub states_in : Result ℤ NumFault → Option ℕ
+states_in (Ok (pos n)) = if nat_le 1 n && nat_le n 268435456 then Some n else None
+states_in (Ok (negsuc n)) = None
+states_in (Err fault) = None
+
+-- the limit of states that is set; 2 ^ 23 where none is set
+abbrev pub states_by : Option (List ℕ) → Option ℕ
+states_by None = Some 8388608
+states_by (Some text) = states_in (whole_of text)
+
 -- a number of nanometres, 0 to 10 ^ 12
 abbrev pub radius_in : Result ℤ NumFault → Option ℕ
 radius_in (Ok (pos n)) = if nat_le n (10 ^ 12) then Some n else None
@@ -73,36 +84,43 @@ abbrev pub pose_by : Option (List ℕ) → Option (Option Pose)
 pose_by None = Some None
 pose_by (Some word) = option_map Some (pose_in (slice_split is_comma word))
 
--- a column or a row, in the range of the environment file
-abbrev pub index_in : Result ℤ NumFault → Option ℕ
-index_in (Ok (pos n)) = if nat_le n 8388607 then Some n else None
-index_in (Ok (negsuc n)) = None
-index_in (Err fault) = None
+-- a column or a row, below the limit of states
+abbrev pub index_in : (states : ℕ) → Result ℤ NumFault → Option ℕ
+index_in states (Ok (pos n)) = if nat_lt n states then Some n else None
+index_in states (Ok (negsuc n)) = None
+index_in states (Err fault) = None
 
 -- the square of two whole numbers
-abbrev pub square_in : List (List ℕ) → Option Square
-square_in (x ∷ (y ∷ [])) = option_and_then (λ a. option_map (λ b. record { x = a; y = b }) (index_in (whole_of y))) (index_in (whole_of x))
-square_in _ = None
+abbrev pub square_in : (states : ℕ) → List (List ℕ) → Option Square
+square_in states (x ∷ (y ∷ [])) =
+    option_and_then (λ a. option_map (λ b. record { x = a; y = b }) (index_in states (whole_of y))) (index_in states (whole_of x))
+square_in states _ = None
 
 -- the square that is set by a word X,Y in place of the file's
-abbrev pub square_by : Option (List ℕ) → Option (Option Square)
-square_by None = Some None
-square_by (Some word) = option_map Some (square_in (slice_split is_comma word))
+abbrev pub square_by : (states : ℕ) → Option (List ℕ) → Option (Option Square)
+square_by states None = Some None
+square_by states (Some word) = option_map Some (square_in states (slice_split is_comma word))
 
--- what the lattice of a command is made of, where there are a radius, a start and a goal
-abbrev pub sources_by : (env prims : List ℕ) → Option ℕ → (start goal : Option (Option Pose)) → Option Sources
-sources_by env prims radius start goal =
-    option_and_then (λ r. option_and_then (λ s. option_map (λ g. record { env = env; prims = prims; radius = r; start = s; goal = g }) goal) start) radius
+-- what the lattice of a command is made of, where there are a limit of states, a radius, a start and a goal
+abbrev pub sources_by : (env prims : List ℕ) → (states radius : Option ℕ) → (start goal : Option (Option Pose)) → Option Sources
+sources_by env prims states radius start goal =
+    option_and_then (λ n. option_and_then (λ r. option_and_then (λ s. option_map (λ g.
+    record { env = env; prims = prims; states = n; radius = r; start = s; goal = g }) goal) start) radius) states
 
 abbrev pub sources_in : (env prims : List ℕ) → Settings → Option Sources
-sources_in env prims set = sources_by env prims (radius_by (set setting.Radius)) (pose_by (set setting.Start)) (pose_by (set setting.Goal))
+sources_in env prims set =
+    sources_by env prims (states_by (set setting.States)) (radius_by (set setting.Radius)) (pose_by (set setting.Start))
+    (pose_by (set setting.Goal))
 
--- what the grid of a command is made of
-abbrev pub grid_sources_by : (env : List ℕ) → (start goal : Option (Option Square)) → Option GridSources
-grid_sources_by env start goal = option_and_then (λ s. option_map (λ g. record { env = env; start = s; goal = g }) goal) start
+-- what the grid of a command is made of, where there are a start and a goal
+abbrev pub grid_sources_by : (env : List ℕ) → (states : ℕ) → (start goal : Option (Option Square)) → Option GridSources
+grid_sources_by env states start goal =
+    option_and_then (λ s. option_map (λ g. record { env = env; states = states; start = s; goal = g }) goal) start
 
 abbrev pub grid_sources_in : (env : List ℕ) → Settings → Option GridSources
-grid_sources_in env set = grid_sources_by env (square_by (set setting.Start)) (square_by (set setting.Goal))
+grid_sources_in env set =
+    option_and_then (λ n. grid_sources_by env n (square_by n (set setting.Start)) (square_by n (set setting.Goal)))
+    (states_by (set setting.States))
 
 -- the thousandths that a number of billionths is exactly, in their range
 abbrev pub milli_from : (low high nano : ℕ) → Option ℕ
@@ -335,11 +353,18 @@ pub record IsDemoJob (d : DemoJob) : Type 0 where
   pub height_low : 8 ≤ d.height
   pub height_high : d.height ≤ 512
 
--- the radius, the start and the goal lie in their ranges
+-- the limit of states, the radius, the start and the goal lie in their ranges
 pub record AreSources (s : Sources) : Type 0 where
+  pub states_low : 1 ≤ s.states
+  pub states_high : s.states ≤ 268435456
   pub radius : s.radius ≤ 10 ^ 12
   pub start : IfSome s.start IsPoseInRange
   pub goal : IfSome s.goal IsPoseInRange
+
+-- the limit of states lies in its range
+pub record AreGridSources (s : GridSources) : Type 0 where
+  pub states_low : 1 ≤ s.states
+  pub states_high : s.states ≤ 268435456
 
 -- the numbers of a job lie in their ranges, and on a grid the robot stays
 abbrev pub IsJob : Job → Type 0
@@ -347,5 +372,5 @@ IsJob (job.Plan plan) = AreSources plan.sources × IsSearchJob plan.search
 IsJob (job.Check check) = AreSources check.sources
 IsJob (job.Sweep sources) = AreSources sources
 IsJob (job.Demo demo) = IsDemoJob demo
-IsJob (job.Nav nav) = IsSearchJob nav.search × (may_move nav.search.planner ≡ false)
-IsJob (job.NavCheck check) = Unit {0}
+IsJob (job.Nav nav) = AreGridSources nav.sources × IsSearchJob nav.search × (may_move nav.search.planner ≡ false)
+IsJob (job.NavCheck check) = AreGridSources check.sources

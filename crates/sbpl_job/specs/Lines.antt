@@ -50,8 +50,12 @@ abbrev pub plan_options : List Rule
 plan_options =
     option_rule (codes "planner") ∷ (option_rule (codes "workers") ∷ (option_rule (codes "first")
     ∷ (option_rule (codes "step") ∷ (option_rule (codes "bound") ∷ (option_rule (codes "budget")
-    ∷ (option_rule (codes "labels") ∷ (option_rule (codes "labels-as") ∷ (option_rule (codes "trace")
-    ∷ (option_rule (codes "incumbent") ∷ [])))))))))
+    ∷ (option_rule (codes "states") ∷ (option_rule (codes "labels") ∷ (option_rule (codes "labels-as")
+    ∷ (option_rule (codes "trace") ∷ (option_rule (codes "incumbent") ∷ []))))))))))
+
+-- the option of the limit of states, where it is the last
+abbrev pub states_option : List Rule
+states_option = option_rule (codes "states") ∷ []
 
 -- the arguments of a command, in order
 abbrev pub arguments : Command → List Rule
@@ -59,11 +63,11 @@ arguments command.Plan =
     plain_rule (codes "ENV") ∷ (plain_rule (codes "MPRIM")
     ∷ (option_rule (codes "changes") ∷ end_options (option_rule (codes "radius") ∷ plan_options)))
 arguments command.Check = plain_rule (codes "ENV") ∷ (plain_rule (codes "MPRIM") ∷ (plain_rule (codes "LABELS") ∷ (option_rule (codes "changes")
-    ∷ end_options (option_rule (codes "radius") ∷ (option_rule (codes "planner") ∷ [])))))
-arguments command.Sweep = plain_rule (codes "ENV") ∷ (plain_rule (codes "MPRIM") ∷ (option_rule (codes "radius") ∷ []))
+    ∷ end_options (option_rule (codes "radius") ∷ (option_rule (codes "planner") ∷ states_option)))))
+arguments command.Sweep = plain_rule (codes "ENV") ∷ (plain_rule (codes "MPRIM") ∷ (option_rule (codes "radius") ∷ states_option))
 arguments command.Demo = plain_rule (codes "SEED") ∷ (plain_rule (codes "W") ∷ (plain_rule (codes "H") ∷ []))
 arguments command.Nav = plain_rule (codes "ENV") ∷ (option_rule (codes "changes") ∷ end_options plan_options)
-arguments command.NavCheck = plain_rule (codes "ENV") ∷ (plain_rule (codes "LABELS") ∷ (option_rule (codes "changes") ∷ end_options []))
+arguments command.NavCheck = plain_rule (codes "ENV") ∷ (plain_rule (codes "LABELS") ∷ (option_rule (codes "changes") ∷ end_options states_option))
 
 abbrev pub word_of : Command → Text
 word_of command.Plan = codes "plan"

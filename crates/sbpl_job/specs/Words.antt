@@ -55,6 +55,7 @@ id_of setting.First = codes "first"
 id_of setting.Step = codes "step"
 id_of setting.Bound = codes "bound"
 id_of setting.Budget = codes "budget"
+id_of setting.States = codes "states"
 id_of setting.Labels = codes "labels"
 id_of setting.LabelsAs = codes "labels-as"
 id_of setting.Trace = codes "trace"
@@ -77,12 +78,13 @@ setting_named word =
     else (if bytes_eq word (codes "--step") then Some setting.Step
     else (if bytes_eq word (codes "--bound") then Some setting.Bound
     else (if bytes_eq word (codes "--budget") then Some setting.Budget
+    else (if bytes_eq word (codes "--states") then Some setting.States
     else (if bytes_eq word (codes "--labels") then Some setting.Labels
     else (if bytes_eq word (codes "--labels-as") then Some setting.LabelsAs
     else (if bytes_eq word (codes "--trace") then Some setting.Trace
     else (if bytes_eq word (codes "--incumbent") then Some setting.Incumbent
     else (if bytes_eq word (codes "--start") then Some setting.Start
-    else (if bytes_eq word (codes "--goal") then Some setting.Goal else None)))))))))))))
+    else (if bytes_eq word (codes "--goal") then Some setting.Goal else None))))))))))))))
 
 -- a setting is where to start, or where to go
 abbrev pub is_end : Setting → Bool
@@ -91,11 +93,13 @@ is_end s = is_setting s setting.Start || is_setting s setting.Goal
 -- a command takes a setting
 abbrev pub takes : Command → Setting → Bool
 takes command.Plan s = true
-takes command.Check s = is_end s || is_setting s setting.Changes || is_setting s setting.Radius || is_setting s setting.Planner
-takes command.Sweep s = is_setting s setting.Radius
+takes command.Check s =
+    is_end s || is_setting s setting.Changes || is_setting s setting.Radius || is_setting s setting.Planner
+    || is_setting s setting.States
+takes command.Sweep s = is_setting s setting.Radius || is_setting s setting.States
 takes command.Demo s = false
 takes command.Nav s = not (is_setting s setting.Radius)
-takes command.NavCheck s = is_end s || is_setting s setting.Changes
+takes command.NavCheck s = is_end s || is_setting s setting.Changes || is_setting s setting.States
 
 -- the setting of this name, where the command takes it
 abbrev pub setting_of : Command → List ℕ → Option Setting

@@ -162,6 +162,13 @@ const BUDGET: Argument = Argument {
     help: "how many states each plan may expand, 1 to 2^30 [default: 2^30]",
 };
 
+/// The limit of states.
+const STATES: Argument = Argument {
+    id: "states",
+    value: Some("N"),
+    help: "how many states the environment may have, 1 to 2^28 [default: 2^23]",
+};
+
 /// Where labels are written.
 const LABELS: Argument = Argument {
     id: "labels",
@@ -192,15 +199,25 @@ const INCUMBENT: Argument = Argument {
 
 /// The arguments of `plan`.
 const PLAN: &[Argument] = &[
-    ENV, MPRIM, CHANGES, START, GOAL, RADIUS, PLANNER, WORKERS, FIRST, STEP, BOUND, BUDGET, LABELS,
-    LABELS_AS, TRACE, INCUMBENT,
+    ENV, MPRIM, CHANGES, START, GOAL, RADIUS, PLANNER, WORKERS, FIRST, STEP, BOUND, BUDGET, STATES,
+    LABELS, LABELS_AS, TRACE, INCUMBENT,
 ];
 
 /// The arguments of `check`.
-const CHECK: &[Argument] = &[ENV, MPRIM, LABELS_FILE, CHANGES, START, GOAL, RADIUS, BACK];
+const CHECK: &[Argument] = &[
+    ENV,
+    MPRIM,
+    LABELS_FILE,
+    CHANGES,
+    START,
+    GOAL,
+    RADIUS,
+    BACK,
+    STATES,
+];
 
 /// The arguments of `sweep`.
-const SWEEP: &[Argument] = &[ENV, MPRIM, RADIUS];
+const SWEEP: &[Argument] = &[ENV, MPRIM, RADIUS, STATES];
 
 /// The arguments of `demo`.
 const DEMO: &[Argument] = &[SEED, WIDTH, HEIGHT];
@@ -217,6 +234,7 @@ const NAV: &[Argument] = &[
     STEP,
     BOUND,
     BUDGET,
+    STATES,
     LABELS,
     LABELS_AS,
     TRACE,
@@ -224,7 +242,7 @@ const NAV: &[Argument] = &[
 ];
 
 /// The arguments of `navcheck`.
-const NAV_CHECK: &[Argument] = &[GRID, LABELS_FILE, CHANGES, GRID_START, GRID_GOAL];
+const NAV_CHECK: &[Argument] = &[GRID, LABELS_FILE, CHANGES, GRID_START, GRID_GOAL, STATES];
 
 /// The arguments of a command, in order.
 pub(crate) fn arguments_of(command: Command) -> &'static [Argument]

@@ -14,9 +14,6 @@ use std::alloc::{AllocError, Global};
 /// The greatest coordinate in nanometres, and the greatest angle in nanoradians.
 const MOST_COORDINATE: i64 = 1_000_000_000_000_000_000;
 
-/// The greatest column, and the greatest row.
-const MOST_INDEX: i64 = 8_388_607;
-
 /// What stands between the commas of a word.
 fn parts_of(alloc: Global, word: &str) -> Result<Vec<&str>, AllocError>
     ensures parts { IfOk result (λ v. texts v.items ≡ slice_split is_comma word.now) }
@@ -77,49 +74,49 @@ pub fn pose_by(alloc: Global, word: Option<&str>) -> Result<Option<Pose>, JobFau
     }
 }
 
-/// A column or a row.
-fn read_index(text: &str) -> Result<u32, JobFault>
-    ensures index { Names (index_in (whole_of text.now)) result }
+/// A column or a row, below the limit of states.
+fn read_index(text: &str, states: u32) -> Result<u32, JobFault>
+    ensures index { Names (index_in states (whole_of text.now)) result }
 {
     match read_whole(text.as_bytes()) {
-        Ok(index) if 0 <= index && index <= MOST_INDEX => Ok(index as u32),
+        Ok(index) if 0 <= index && index < i64::from(states) => Ok(index as u32),
         _ => Err(JobFault::Words),
     }
 }
 
 /// The cell of two texts.
-fn square_of(x: &str, y: &str) -> Result<Square, JobFault>
-    ensures square { Names (square_in (x.now ∷ (y.now ∷ []))) result }
+fn square_of(x: &str, y: &str, states: u32) -> Result<Square, JobFault>
+    ensures square { Names (square_in states (x.now ∷ (y.now ∷ []))) result }
 {
-    let x = read_index(x)?;
-    let y = read_index(y)?;
+    let x = read_index(x, states)?;
+    let y = read_index(y, states)?;
     Ok(Square { x, y })
 }
 
 /// The cell of these parts of a word.
-fn square_in(parts: &[&str]) -> Result<Square, JobFault>
-    ensures square { Names (square_in (texts parts.now)) result }
+fn square_in(parts: &[&str], states: u32) -> Result<Square, JobFault>
+    ensures square { Names (square_in states (texts parts.now)) result }
 {
     match parts {
-        [x, y] => square_of(*x, *y),
+        [x, y] => square_of(*x, *y, states),
         _ => Err(JobFault::Words),
     }
 }
 
 /// The cell that a word says: its column and its row, with a comma between.
-fn read_square(alloc: Global, word: &str) -> Result<Square, JobFault>
-    ensures square { Names (square_in (slice_split is_comma word.now)) result }
+fn read_square(alloc: Global, word: &str, states: u32) -> Result<Square, JobFault>
+    ensures square { Names (square_in states (slice_split is_comma word.now)) result }
 {
     let parts = parts_of(alloc, word)?;
-    square_in(parts.as_slice())
+    square_in(parts.as_slice(), states)
 }
 
 /// The cell that a word gives in place of the file's, if there is one.
-pub fn square_by(alloc: Global, word: Option<&str>) -> Result<Option<Square>, JobFault>
-    ensures square { Names (square_by (option_map text_of word.entry)) result }
+pub fn square_by(alloc: Global, word: Option<&str>, states: u32) -> Result<Option<Square>, JobFault>
+    ensures square { Names (square_by states (option_map text_of word.entry)) result }
 {
     match word {
         None => Ok(None),
-        Some(word) => Ok(Some(read_square(alloc, word)?)),
+        Some(word) => Ok(Some(read_square(alloc, word, states)?)),
     }
 }

@@ -4,24 +4,25 @@ ghost use Rattle.std.specs.Prelude.{◌≡◌, IfOk, Some, option_map};
 ghost use Rattle.std.specs.Str.{bytes_eq};
 ghost use Rattle.sbpl_job.specs.declared.words.Setting.TheVariants as Settings;
 ghost use Rattle.sbpl_job.specs.Found.{set_in};
-ghost use Rattle.sbpl_job.specs.Jobs.{AreSources, differ, form_by, form_named, grid_sources_in};
+ghost use Rattle.sbpl_job.specs.Jobs.{AreGridSources, AreSources, differ, form_by, form_named, grid_sources_in};
 ghost use Rattle.sbpl_job.specs.Jobs.{is_input, output_by, outputs_by, outputs_in, sources_in};
 ghost use Rattle.sbpl_job.specs.Words.{Names, text_of, texts};
 
 use crate::ends::{pose_by, square_by};
 use crate::job::{GridSources, JobFault, LabelForm, Outputs, Sources};
 use crate::name::Name;
-use crate::values::radius_of;
+use crate::values::{radius_of, states_by};
 use crate::words::stands_in;
 use clap::ArgMatches;
 use sbpl_cfg::Pose;
 use std::alloc::{AllocError, Global};
 
-/// These names, this radius, and this start and this goal in place of the file's.
+/// These names, this limit of states, this radius, and this start and this goal in place of the file's.
 fn make_sources(
     alloc: Global,
     env: &str,
     prims: &str,
+    states: u32,
     radius: u64,
     start: Option<Pose>,
     goal: Option<Pose>,
@@ -29,6 +30,7 @@ fn make_sources(
     ensures sources { IfOk result (λ s. s ≡ record {
       env = env.now;
       prims = prims.now;
+      states = states;
       radius = radius;
       start = start;
       goal = goal;
@@ -37,6 +39,7 @@ fn make_sources(
     Ok(Sources {
         env: Name::of(alloc, env)?,
         prims: Name::of(alloc, prims)?,
+        states,
         radius,
         start,
         goal,
@@ -53,10 +56,11 @@ pub(crate) fn sources_of(
     ensures sources { Names (sources_in env.now prims.now (set_in matches.now)) result }
     ensures range { IfOk result AreSources }
 {
+    let states = states_by(matches.get_str("states"))?;
     let radius = radius_of(matches)?;
     let start = pose_by(alloc, matches.get_str("start"))?;
     let goal = pose_by(alloc, matches.get_str("goal"))?;
-    Ok(make_sources(alloc, env, prims, radius, start, goal)?)
+    Ok(make_sources(alloc, env, prims, states, radius, start, goal)?)
 }
 
 /// What the grid of a command is made of.
@@ -66,11 +70,14 @@ pub(crate) fn grid_sources_of(
     matches: &ArgMatches,
 ) -> Result<GridSources, JobFault>
     ensures sources { Names (grid_sources_in env.now (set_in matches.now)) result }
+    ensures range { IfOk result AreGridSources }
 {
-    let start = square_by(alloc, matches.get_str("start"))?;
-    let goal = square_by(alloc, matches.get_str("goal"))?;
+    let states = states_by(matches.get_str("states"))?;
+    let start = square_by(alloc, matches.get_str("start"), states)?;
+    let goal = square_by(alloc, matches.get_str("goal"), states)?;
     Ok(GridSources {
         env: Name::of(alloc, env)?,
+        states,
         start,
         goal,
     })

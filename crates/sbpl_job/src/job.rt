@@ -9,7 +9,7 @@ use sbpl_cfg::Pose;
 use std::alloc::{AllocError, AllocFailed};
 use thiserror::Error;
 
-/// A cell of a grid: its column and its row, each 0 to 8388607.
+/// A cell of a grid: its column and its row, each below the limit of states.
 #[derive(Clone, Copy, Debug, PartialEq, Eq)]
 pub struct Square {
     pub x: u32,
@@ -21,6 +21,8 @@ pub struct Square {
 pub struct GridSources {
     /// The environment file.
     pub env: Name,
+    /// How many states the environment may have, 1 to 2^28.
+    pub states: u32,
     /// The cell to start from, where it is not the file's.
     pub start: Option<Square>,
     /// The cell to go to, where it is not the file's.
@@ -34,6 +36,8 @@ pub struct Sources {
     pub env: Name,
     /// The primitive file.
     pub prims: Name,
+    /// How many states the environment may have, 1 to 2^28.
+    pub states: u32,
     /// The radius of the robot in nanometres, 0 to 10^12.
     pub radius: u64,
     /// Where to start, where it is not the file's start.

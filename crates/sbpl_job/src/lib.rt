@@ -24,6 +24,10 @@ pub use job::{
 pub use line::line_of;
 pub use name::Name;
 pub use read::{command_named, read_job};
-pub use sbpl_cfg::{Message, NoMemory, next_token, plain_message, print_milli, read_whole};
-pub use values::{back_of, budget_of, milli_by, planner_of, radius_of, workers_of};
+pub use sbpl_cfg::{
+    Message, NoMemory, next_token, plain_message, print_milli, read_whole, with_limit,
+};
+pub use values::{
+    USUAL_STATES, back_of, budget_of, milli_by, planner_of, radius_of, states_by, workers_of,
+};
 pub use words::{Command, Setting, is_plain, setting_of, spaced_words, words_part_into_forms};

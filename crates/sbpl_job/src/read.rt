@@ -2,8 +2,9 @@
 
 ghost use Rattle.std.specs.Prelude.{◌≡◌, false, IfErr, IfOk, None, Some, option_and_then};
 ghost use Rattle.sbpl_job.specs.Found.{job_found, set_in};
-ghost use Rattle.sbpl_job.specs.Jobs.{AreSources, IsJob, IsSearchJob, check_in, command_named, demo_in, job_by, job_named};
-ghost use Rattle.sbpl_job.specs.Jobs.{may_move, nav_by, nav_check_in, nav_in, nav_on, plan_by, plan_in, plan_on, sweep_in};
+ghost use Rattle.sbpl_job.specs.Jobs.{AreGridSources, AreSources, IsJob, IsSearchJob, check_in, command_named, demo_in};
+ghost use Rattle.sbpl_job.specs.Jobs.{job_by, job_named, may_move, nav_by, nav_check_in, nav_in, nav_on};
+ghost use Rattle.sbpl_job.specs.Jobs.{plan_by, plan_in, plan_on, sweep_in};
 ghost use Rattle.sbpl_job.specs.Words.{Names, parts_in, texts};
 
 use crate::demo::{read_extent, read_seed};
@@ -148,6 +149,7 @@ fn nav_on(
     changes: Option<Name>,
     matches: &ArgMatches,
 ) -> Result<Job, JobFault>
+    requires range { AreGridSources sources }
     ensures job { Names (nav_on sources changes (set_in matches.now)) result }
     ensures range { IfOk result IsJob }
 {

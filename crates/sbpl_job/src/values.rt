@@ -6,7 +6,7 @@ ghost use Rattle.sbpl_job.specs.declared.words.Setting.TheVariants as Settings;
 ghost use Rattle.sbpl_job.specs.Found.{set_in};
 ghost use Rattle.sbpl_job.specs.Jobs.{IsSearchJob, back_by, budget_by, budget_in, grid_search_in, has_workers, may_move};
 ghost use Rattle.sbpl_job.specs.Jobs.{milli_by, milli_from, milli_in, most_workers, planner_by, planner_named, radius_by};
-ghost use Rattle.sbpl_job.specs.Jobs.{radius_in, search_in, workers_by, workers_in};
+ghost use Rattle.sbpl_job.specs.Jobs.{radius_in, search_in, states_by, states_in, workers_by, workers_in};
 ghost use Rattle.sbpl_job.specs.Words.{Names, text_of};
 
 use crate::job::{JobFault, Planner, SearchJob};
@@ -19,6 +19,12 @@ const MOST_RADIUS: i64 = 1_000_000_000_000;
 
 /// The most expansions of a plan.
 const MOST_BUDGET: i64 = 1 << 30;
+
+/// The greatest limit of states.
+const MOST_STATES: i64 = 268_435_456;
+
+/// The limit of states where none is given.
+pub const USUAL_STATES: u32 = 8_388_608;
 
 /// The most workers that a job can ask for.
 const MOST_WORKERS: i64 = 64;
@@ -101,6 +107,28 @@ pub fn budget_of(matches: &ArgMatches) -> Result<u64, JobFault>
     match matches.get_str("budget") {
         None => Ok(MOST_BUDGET as u64),
         Some(text) => read_budget(text),
+    }
+}
+
+/// A limit of states, 1 to 2^28.
+fn read_states(text: &str) -> Result<u32, JobFault>
+    ensures states { Names (states_in (whole_of text.now)) result }
+    ensures range { IfOk result (λ n. (1 ≤ n) × (n ≤ 268435456)) }
+{
+    match read_whole(text.as_bytes()) {
+        Ok(states) if states >= 1 && states <= MOST_STATES => Ok(states as u32),
+        _ => Err(JobFault::Words),
+    }
+}
+
+/// How many states an environment may have, by a text that is given; 2^23 where there is none.
+pub fn states_by(text: Option<&str>) -> Result<u32, JobFault>
+    ensures states { Names (states_by (option_map text_of text.entry)) result }
+    ensures range { IfOk result (λ n. (1 ≤ n) × (n ≤ 268435456)) }
+{
+    match text {
+        None => Ok(USUAL_STATES),
+        Some(text) => read_states(text),
     }
 }
 

@@ -45,6 +45,8 @@ pub enum Setting {
     Bound,
     /// `--budget`: how many states a plan may expand.
     Budget,
+    /// `--states`: how many states an environment may have.
+    States,
     /// `--labels`: where the labels of each plan are written.
     Labels,
     /// `--labels-as`: in which form the labels are written.
@@ -82,6 +84,7 @@ fn setting_named(word: &str) -> Option<Setting>
         "--step" => Some(Setting::Step),
         "--bound" => Some(Setting::Bound),
         "--budget" => Some(Setting::Budget),
+        "--states" => Some(Setting::States),
         "--labels" => Some(Setting::Labels),
         "--labels-as" => Some(Setting::LabelsAs),
         "--trace" => Some(Setting::Trace),
@@ -100,14 +103,20 @@ fn takes(command: Command, setting: Setting) -> bool
         Command::Plan => true,
         Command::Check => matches!(
             setting,
-            Setting::Changes | Setting::Radius | Setting::Planner | Setting::Start | Setting::Goal
+            Setting::Changes
+                | Setting::Radius
+                | Setting::Planner
+                | Setting::States
+                | Setting::Start
+                | Setting::Goal
         ),
-        Command::Sweep => matches!(setting, Setting::Radius),
+        Command::Sweep => matches!(setting, Setting::Radius | Setting::States),
         Command::Demo => false,
         Command::Nav => !matches!(setting, Setting::Radius),
-        Command::NavCheck => {
-            matches!(setting, Setting::Changes | Setting::Start | Setting::Goal)
-        }
+        Command::NavCheck => matches!(
+            setting,
+            Setting::Changes | Setting::States | Setting::Start | Setting::Goal
+        ),
     }
 }
 

@@ -1,7 +1,7 @@
 //! The jobs `nav` and `navcheck`.
 
 ghost use Rattle.std.specs.Prelude.{◌≡◌, ◌^◌, ◌<◌, List, length, IfErr, IfOk, OnErr};
-ghost use Rattle.sbpl_checks.specs.sbpl_job.Jobs.{IsJob};
+ghost use Rattle.sbpl_checks.specs.sbpl_job.Jobs.{AreGridSources, IsJob};
 ghost use Rattle.sbpl_checks.specs.sbpl_job.declared.job.Job.TheVariants as Jobs;
 ghost use Rattle.sbpl_checks.specs.sbpl_promises.Causes.{AreRead, IsReadText, grid_files};
 ghost use Rattle.sbpl_checks.specs.sbpl_promises.Published.{Entry};
@@ -58,6 +58,7 @@ fn read_nav_check<D: Desk>(
     job: &NavCheckJob,
     desk: &mut D,
 ) -> Result<(Nav, Updates, Vec<u8>), JobStop>
+    requires ranges { AreGridSources job.now.sources }
     ensures updates { IfOk result (λ x. AreRead (D.state desk.old).held (grid_files job.now.sources) job.now.changes x.0 x.1) }
     ensures text { IfOk result (λ x. IsReadText ((D.state desk.old).held job.now.labels) x.2.items) }
     ensures stop { IfErr result (IsJobStop (D.state desk.old) (D.state desk.new) (Jobs.NavCheck job.now)) }
@@ -79,6 +80,7 @@ pub(crate) fn run_navcheck<D: Desk>(
     job: &NavCheckJob,
     desk: &mut D,
 ) -> Result<Ending, JobStop>
+    requires ranges { AreGridSources job.now.sources }
     ensures ends { IfOk result (λ e. (log : List Entry) → IsJobEnding (D.state desk.old) (D.state desk.new) log log
         (Jobs.NavCheck job.now) e) }
     ensures stop { IfErr result (IsJobStop (D.state desk.old) (D.state desk.new) (Jobs.NavCheck job.now)) }

@@ -86,22 +86,23 @@ same_environment clear held from e d cells (text, others, tells, stands) says =
 
 -- the scope that a world which was read gives a change file is the one that is told
 pub same_scope : TextsAreClear → (held : Told) (from : Sources) (moving : Bool) (s : Scope) (w : World)
-    → TellsScope held from moving s → ReadsWorld held from w → scope_of moving w ≡ s
+    → TellsScope held from moving s → ReadsWorld held from w → scope_of from.states moving w ≡ s
 same_scope clear held from moving s w (text, e, cells, tells, stands, is) says =
     let both =
     clear.environment from text w.env e says.cells cells
     (said_text held from w.env says.cells text tells says.environment) stands in
-    ap (λ (m : CellMap). scope_for moving w.env m) says.map
+    ap (λ (m : CellMap). scope_for from.states moving w.env m) says.map
     ∙ ap (λ (d : Environment).
-    scope_for moving d (record { width = d.width; height = d.height; costs = says.cells })) both.0
-    ∙ ap (λ (l : List ℕ). scope_for moving e (record { width = e.width; height = e.height; costs = l })) both.1 ∙ sym is
+    scope_for from.states moving d (record { width = d.width; height = d.height; costs = says.cells })) both.0
+    ∙ ap (λ (l : List ℕ).
+    scope_for from.states moving e (record { width = e.width; height = e.height; costs = l })) both.1 ∙ sym is
 
 -- where an environment is told, no fault of it was read
 not_faulty : TextsAreClear → (held : Told) (from : Sources) (e : Environment) (f : EnvFault) (t : List ℕ)
-    → TellsEnvironment held from e → IsReadText (held from.env) t → HasEnvironmentFault t f → ⊥
+    → TellsEnvironment held from e → IsReadText (held from.env) t → HasEnvironmentFault from.states t f → ⊥
 not_faulty clear held from e f t (text, cells, tells, stands) read faulty =
     clear.environment_fault from text e cells f stands
-    (subst (λ u. HasEnvironmentFault u f) (told_is _ text t tells.held_bytes read) faulty)
+    (subst (λ u. HasEnvironmentFault from.states u f) (told_is _ text t tells.held_bytes read) faulty)
 
 -- where an environment is told, no end was off its map
 not_off : TextsAreClear → (held : Told) (from : Sources) (e : Environment) (end : PathEnd)
@@ -478,7 +479,7 @@ module _ (clear : TextsAreClear) (held : Told) (Failed : Names) (from : Sources)
   pub end_off : (end : PathEnd) → TellsEndOff held from end → (r : Refusal) → IsCause held Failed from r
       → IsOrFailed 2 (refusal_status r)
   end_off end tells (refusal.Environment x) p =
-      absurd (clear.end_fault from tells.0 end x tells.2 (subst (λ (t : List ℕ). HasEnvironmentFault t x)
+      absurd (clear.end_fault from tells.0 end x tells.2 (subst (λ (t : List ℕ). HasEnvironmentFault from.states t x)
       (told_is _ tells.0 p.text tells.1.held_bytes p.read) p.faulty))
   end_off end tells (refusal.OffMap x) p = inl refl
   end_off end tells (refusal.Primitives x) p = absurd (off_not_said end p.env p.cells tells p.environment)
@@ -589,7 +590,7 @@ module _ (clear : TextsAreClear) (held : Told) (Failed : Names) (from : Sources)
   }
 
   -- files that stand for a world are good ones
-  pub world_good : (moving : Bool) (w : World) → TellsWorld held from w → AreGood held from moving (scope_of moving w)
+  pub world_good : (moving : Bool) (w : World) → TellsWorld held from w → AreGood held from moving (scope_of from.states moving w)
   world_good moving w tells = record {
     env = w.env;
     prims = w.prims;
@@ -600,14 +601,14 @@ module _ (clear : TextsAreClear) (held : Told) (Failed : Names) (from : Sources)
     scope = by_text tells.environment;
   }
     where
-      by_text : TellsEnvironment held from w.env → TellsScope held from moving (scope_of moving w)
+      by_text : TellsEnvironment held from w.env → TellsScope held from moving (scope_of from.states moving w)
       by_text (text, cells, told, stands) = (
         text,
         w.env,
         tells.says.cells,
         told,
         said_text held from w.env tells.says.cells text told tells.says.environment,
-        ap (λ (m : CellMap). scope_for moving w.env m) tells.says.map,
+        ap (λ (m : CellMap). scope_for from.states moving w.env m) tells.says.map,
       )
 
 -- ---- grids
@@ -650,7 +651,7 @@ module _ (clear : TextsAreClear) (held : Told) (Failed : Names) (from : GridSour
   pub grid_end_off : (end : PathEnd) → TellsGridEndOff held from end → (r : Refusal) → IsGridCause held Failed from r
       → IsOrFailed 2 (refusal_status r)
   grid_end_off end tells (refusal.Grid x) p =
-      absurd (clear.grid_end_fault from tells.0 end x tells.2 (subst (λ (t : List ℕ). HasGridFault t x)
+      absurd (clear.grid_end_fault from tells.0 end x tells.2 (subst (λ (t : List ℕ). HasGridFault from.states t x)
       (told_is _ tells.0 p.text tells.1.held_bytes p.read) p.faulty))
   grid_end_off end tells (refusal.OffMap x) p = inl refl
   grid_end_off end tells (refusal.Read x) p = failed_read 2
@@ -675,14 +676,14 @@ module _ (clear : TextsAreClear) (held : Told) (Failed : Names) (from : GridSour
       absurd (clear.grid_end_off from tells.text w.env tells.cells x tells.stands (subst (λ (t : List ℕ).
       HasGridEndOff from t x) (told_is (held from.env) tells.text p.text tells.told.held_bytes p.read) p.off))
   told_grid_refused w tells wanted (refusal.Grid x) p =
-      absurd (clear.grid_fault from tells.text w.env tells.cells x tells.stands (subst (λ (t : List ℕ). HasGridFault t x)
-      (told_is (held from.env) tells.text p.text tells.told.held_bytes p.read) p.faulty))
+      absurd (clear.grid_fault from tells.text w.env tells.cells x tells.stands (subst (λ (t : List ℕ).
+      HasGridFault from.states t x) (told_is (held from.env) tells.text p.text tells.told.held_bytes p.read) p.faulty))
   told_grid_refused w tells wanted (refusal.Read x) p = failed_read wanted
   told_grid_refused w tells wanted (refusal.Length input.Environment) p =
       absurd (too_long_not_short _ tells.text tells.told p)
   told_grid_refused w tells wanted _ p = absurd p
 
   -- such a file is a good one
-  pub good_grid : (w : GridWorld) → TellsGrid held from w → AreGoodFiles held Failed (grid_files from) (grid_scope w)
+  pub good_grid : (w : GridWorld) → TellsGrid held from w → AreGoodFiles held Failed (grid_files from) (grid_scope from.states w)
   good_grid w tells =
-      record { refused = told_grid_refused w tells; scope = λ v says. ap grid_scope (same_grid w v tells says) }
+      record { refused = told_grid_refused w tells; scope = λ v says. ap (grid_scope from.states) (same_grid w v tells says) }

@@ -1,5 +1,5 @@
 -- Lattices that files cannot tell apart.
-use Rattle.std.proofs.Common.{◌≡◌, ℕ, zero, suc, ℤ, pos, ◌+◌, ◌<◌, ◌≤◌, ◌==◌, max, Bool, true, cond, inl, inr, refl}
+use Rattle.std.proofs.Common.{◌≡◌, ℕ, zero, suc, ℤ, pos, ◌+◌, ◌<◌, ◌≤◌, ◌==◌, max, min, Bool, true, cond, inl, inr, refl}
 use Rattle.std.proofs.Common.{sym, ap, subst, ◌∙◌, arith, List, [], ◌∷◌, take, count_by, slice_get, Option, Some, None}
 use Rattle.std.proofs.lemmas.Bool.{eq-eqb}
 use Rattle.std.proofs.lemmas.List.Sums.{sum_by-cons}
@@ -19,7 +19,7 @@ use Rattle.sbpl_promises.specs.sbpl_cost.Reads.{ReadsCell}
 use Rattle.sbpl_promises.specs.sbpl_cost.States.{place_of, state_count, state_number}
 use Rattle.sbpl_promises.specs.sbpl_cost.World.{World, over_map}
 use Rattle.sbpl_promises.specs.sbpl_heur.Bests.{IsBest, cell_of}
-use Rattle.sbpl_promises.specs.sbpl_heur.Walks.{IsCellBound}
+use Rattle.sbpl_promises.specs.sbpl_heur.Walks.{IsCellBound, IsCellWeight}
 use Rattle.sbpl_promises.specs.Determined.{AreAlikeWorlds}
 use Rattle.sbpl_promises.specs.LatticeSite.{IsPathStep, IsStateOf, lattice_site}
 use Rattle.sbpl_promises.specs.sbpl_report.declared.record.PathStep.{PathStep}
@@ -30,19 +30,29 @@ use Rattle.sbpl_laws.proofs.AlikeSites.{AreAlike}
 abbrev pub made : Environment → Primitives → Swept → CellMap → World
 made e ps sweeps m = record { env = e; prims = ps; sweeps = sweeps; map = m }
 
--- the cell bound is determined
-one_cell_bound : (e : Environment) (ps : List Primitive) (m : CellMap) (goal a b c : ℕ) → IsCellBound e ps m goal a b
-    → IsCellBound e ps m goal a c → b ≡ c
-one_cell_bound e ps m goal a b c (inl x) (inl y) =
+-- the weight of a cell is determined
+one_weight : (e : Environment) (ps : List Primitive) (m : CellMap) (goal a b c : ℕ) → IsCellWeight e ps m goal a b
+    → IsCellWeight e ps m goal a c → b ≡ c
+one_weight e ps m goal a b c (inl x) (inl y) =
     let up : b ≤ c = x.least y.cells c y.walk in
     let down : c ≤ b = y.least x.cells b x.walk in
     omega arith
-one_cell_bound e ps m goal a b c (inl x) (inr y) = absurd (y.0 x.cells b x.walk)
-one_cell_bound e ps m goal a b c (inr x) (inl y) = absurd (x.0 y.cells c y.walk)
-one_cell_bound e ps m goal a b c (inr x) (inr y) =
+one_weight e ps m goal a b c (inl x) (inr y) = absurd (y.0 x.cells b x.walk)
+one_weight e ps m goal a b c (inr x) (inl y) = absurd (x.0 y.cells c y.walk)
+one_weight e ps m goal a b c (inr x) (inr y) =
     let up : b ≤ c = y.1.greatest x.1.cell b x.1.inside x.1.attained in
     let down : c ≤ b = x.1.greatest y.1.cell c y.1.inside y.1.attained in
     omega arith
+
+-- the lesser of a number and a constant is determined
+one_lesser : (most b c v w : ℕ) → b ≡ min v most → c ≡ min w most → v ≡ w → b ≡ c
+one_lesser most b c v w x y same = x ∙ ap (λ (n : ℕ). min n most) same ∙ sym y
+
+-- so the cell bound is
+one_cell_bound : (e : Environment) (ps : List Primitive) (m : CellMap) (goal a b c : ℕ) → IsCellBound e ps m goal a b
+    → IsCellBound e ps m goal a c → b ≡ c
+one_cell_bound e ps m goal a b c x y =
+    one_lesser _ b c x.weight y.weight x.lesser y.lesser (one_weight e ps m goal a x.weight y.weight x.weighs y.weighs)
 
 one_best : (e : Environment) (ps : Primitives) (sweeps others : Swept) (m : CellMap) (goal : ℕ) (h h' : ℕ → ℕ)
     → network_of (made e ps sweeps m) ≡ network_of (made e ps others m) → IsBest (made e ps sweeps m) goal h

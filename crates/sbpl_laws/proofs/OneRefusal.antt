@@ -184,13 +184,14 @@ module _ (clear : TextsAreClear) (held : Told) where
     off_not_faulty : (end : PathEnd) (f : EnvFault) → IsEndOff held from end → IsFaultyEnvironment held from f → ⊥
     off_not_faulty end f x y =
         let text : y.text ≡ x.text = read_once (held from.env) y.text x.text told_env y.read x.read in
-        clear.end_fault from x.text end f x.off (subst (λ (t : List ℕ). HasEnvironmentFault t f) text y.faulty)
+        clear.end_fault from x.text end f x.off (subst (λ (t : List ℕ). HasEnvironmentFault from.states t f) text y.faulty)
 
     one_environment : (r u : Refusal) → IsBadEnvironment held from r → IsBadEnvironment held from u → r ≡ u
     one_environment r u (inl (f, is, x)) (inl (g, also, y)) =
         let text : y.text ≡ x.text = read_once (held from.env) y.text x.text told_env y.read x.read in
-        let own : HasEnvironmentFault x.text g = subst (λ (t : List ℕ). HasEnvironmentFault t g) text y.faulty in
-        is ∙ ap (λ (e : EnvFault). refusal.Environment e) (clear.one_environment_fault x.text f g x.faulty own)
+        let own : HasEnvironmentFault from.states x.text g =
+        subst (λ (t : List ℕ). HasEnvironmentFault from.states t g) text y.faulty in
+        is ∙ ap (λ (e : EnvFault). refusal.Environment e) (clear.one_environment_fault from.states x.text f g x.faulty own)
         ∙ sym also
     one_environment r u (inl (f, is, x)) (inr (inl (also, long))) =
         absurd (read_is_short (held from.env) x.text told_env x.read long)
@@ -377,13 +378,14 @@ module _ (clear : TextsAreClear) (held : Told) (from : GridSources) (told : IsSo
   off_grid_not_faulty : (end : PathEnd) (f : EnvFault) → IsGridEndOff held from end → IsFaultyGrid held from f → ⊥
   off_grid_not_faulty end f x y =
       let text : y.text ≡ x.text = read_once (held from.env) y.text x.text told y.read x.read in
-      clear.grid_end_fault from x.text end f x.off (subst (λ (t : List ℕ). HasGridFault t f) text y.faulty)
+      clear.grid_end_fault from x.text end f x.off (subst (λ (t : List ℕ). HasGridFault from.states t f) text y.faulty)
 
   one_grid : (r u : Refusal) → IsBadGrid held from r → IsBadGrid held from u → r ≡ u
   one_grid r u (inl (f, is, x)) (inl (g, also, y)) =
       let text : y.text ≡ x.text = read_once (held from.env) y.text x.text told y.read x.read in
-      let own : HasGridFault x.text g = subst (λ (t : List ℕ). HasGridFault t g) text y.faulty in
-      is ∙ ap (λ (e : EnvFault). refusal.Grid e) (clear.one_grid_fault x.text f g x.faulty own) ∙ sym also
+      let own : HasGridFault from.states x.text g =
+      subst (λ (t : List ℕ). HasGridFault from.states t g) text y.faulty in
+      is ∙ ap (λ (e : EnvFault). refusal.Grid e) (clear.one_grid_fault from.states x.text f g x.faulty own) ∙ sym also
   one_grid r u (inl (f, is, x)) (inr (inl (also, long))) =
       absurd (read_is_short (held from.env) x.text told x.read long)
   one_grid r u (inl (f, is, x)) (inr (inr (end, also, y))) = absurd (off_grid_not_faulty end f y x)

@@ -44,64 +44,65 @@ one_off IsOn start goal path_end.Goal path_end.Start off also = absurd (given_of
 one_off IsOn start goal path_end.Goal path_end.Goal off also = refl
 
 -- one text, with the same words, stands for one environment
-environment_once : {text : List ℕ}
-    → ((e d : Environment) (cells others : List ℕ) → environments.IsTextOf text e cells
-    → environments.IsTextOf text d others → (e ≡ d) × (cells ≡ others))
-    → (from : Sources) (e d : Environment) (cells others : List ℕ) → IsEnvironmentFor from text e cells
+environment_once : {text : List ℕ} (from : Sources)
+    → ((e d : Environment) (cells others : List ℕ) → environments.IsTextOf from.states text e cells
+    → environments.IsTextOf from.states text d others → (e ≡ d) × (cells ≡ others))
+    → (e d : Environment) (cells others : List ℕ) → IsEnvironmentFor from text e cells
     → IsEnvironmentFor from text d others → (e ≡ d) × (cells ≡ others)
-environment_once one from e d cells others (file, p, on, is) (other, q, also, same) =
+environment_once from one e d cells others (file, p, on, is) (other, q, also, same) =
     let both = one file other cells others p q in (is ∙ ap (posed from) both.0 ∙ sym same, both.1)
 
-grid_once : {text : List ℕ}
-    → ((e d : NavEnvironment) (cells others : List ℕ) → grids.IsTextOf text e cells
-    → grids.IsTextOf text d others → (e ≡ d) × (cells ≡ others))
-    → (from : GridSources) (e d : NavEnvironment) (cells others : List ℕ) → IsGridFor from text e cells
+grid_once : {text : List ℕ} (from : GridSources)
+    → ((e d : NavEnvironment) (cells others : List ℕ) → grids.IsTextOf from.states text e cells
+    → grids.IsTextOf from.states text d others → (e ≡ d) × (cells ≡ others))
+    → (e d : NavEnvironment) (cells others : List ℕ) → IsGridFor from text e cells
     → IsGridFor from text d others → (e ≡ d) × (cells ≡ others)
-grid_once one from e d cells others (file, p, on, is) (other, q, also, same) =
+grid_once from one e d cells others (file, p, on, is) (other, q, also, same) =
     let both = one file other cells others p q in (is ∙ ap (posed_on_grid from) both.0 ∙ sym same, both.1)
 
 pub texts_clear :
-    ((text : List ℕ) (e d : Environment) (cells others : List ℕ) → environments.IsTextOf text e cells
-    → environments.IsTextOf text d others → (e ≡ d) × (cells ≡ others))
-    → ((text : List ℕ) (f : EnvFault) → environments.IsText text → environments.HasFault text f → ⊥)
-    → ((text : List ℕ) (f g : EnvFault) → environments.HasFault text f → environments.HasFault text g → f ≡ g)
+    ((states : ℕ) (text : List ℕ) (e d : Environment) (cells others : List ℕ) → environments.IsTextOf states text e cells
+    → environments.IsTextOf states text d others → (e ≡ d) × (cells ≡ others))
+    → ((states : ℕ) (text : List ℕ) (f : EnvFault) → environments.IsText states text → environments.HasFault states text f → ⊥)
+    → ((states : ℕ) (text : List ℕ) (f g : EnvFault) → environments.HasFault states text f
+    → environments.HasFault states text g → f ≡ g)
     → ((text : List ℕ) (ps qs : Primitives) → primitives.IsTextOf text ps → primitives.IsTextOf text qs → ps ≡ qs)
     → ((cell : ℤ) (headings : ℕ) (text : List ℕ) (f : PrimFault) → primitives.IsText cell headings text
     → primitives.HasFault cell headings text f → ⊥)
     → ((cell : ℤ) (headings : ℕ) (text : List ℕ) (f g : PrimFault) → primitives.HasFault cell headings text f
     → primitives.HasFault cell headings text g → f ≡ g)
-    → ((text : List ℕ) (e d : NavEnvironment) (cells others : List ℕ) → grids.IsTextOf text e cells
-    → grids.IsTextOf text d others → (e ≡ d) × (cells ≡ others))
-    → ((text : List ℕ) (f : EnvFault) → grids.IsText text → grids.HasFault text f → ⊥)
-    → ((text : List ℕ) (f g : EnvFault) → grids.HasFault text f → grids.HasFault text g → f ≡ g)
+    → ((states : ℕ) (text : List ℕ) (e d : NavEnvironment) (cells others : List ℕ) → grids.IsTextOf states text e cells
+    → grids.IsTextOf states text d others → (e ≡ d) × (cells ≡ others))
+    → ((states : ℕ) (text : List ℕ) (f : EnvFault) → grids.IsText states text → grids.HasFault states text f → ⊥)
+    → ((states : ℕ) (text : List ℕ) (f g : EnvFault) → grids.HasFault states text f → grids.HasFault states text g → f ≡ g)
     → ((s : Scope) (text : List ℕ) (c d : Updates) → IsChangeText s text c → IsChangeText s text d → c ≡ d)
     → ((s : Scope) (text : List ℕ) (c : Updates) (f : ChangeFault) → IsChangeText s text c → HasChangeFault s text f → ⊥)
     → ((s : Scope) (text : List ℕ) (f g : ChangeFault) → HasChangeFault s text f → HasChangeFault s text g → f ≡ g)
     → TextsAreClear
 texts_clear one not_both one_fault one_list not_both_lists one_list_fault one_grid not_both_grids one_grid_fault
     updates_once not_both_updates updates_once_fault = record {
-      environment = λ from text. environment_once (one text) from;
-      environment_fault = λ from text e cells f (file, p, on, is) q. not_both text f (file, cells, p) q;
+      environment = λ from text. environment_once from (one from.states text);
+      environment_fault = λ from text e cells f (file, p, on, is) q. not_both from.states text f (file, cells, p) q;
       end_off = λ from text e cells end (file, p, on, is) (other, others, q, off).
           on_and_off _ _ _ end on (subst (λ d. IsFirstOff (IsPoseOnMap d) from.start from.goal end)
-          (one text other file others cells q p).0 off);
-      end_fault = λ from text end f (file, cells, p, off) q. not_both text f (file, cells, p) q;
+          (one from.states text other file others cells q p).0 off);
+      end_fault = λ from text end f (file, cells, p, off) q. not_both from.states text f (file, cells, p) q;
       one_end = λ from text end other (file, cells, p, off) (file', cells', q, also).
           one_off _ _ _ end other off (subst (λ d. IsFirstOff (IsPoseOnMap d) from.start from.goal other)
-          (one text file' file cells' cells q p).0 also);
+          (one from.states text file' file cells' cells q p).0 also);
       one_environment_fault = one_fault;
       primitives = λ text e ps qs p q. one_list text ps qs p.stands q.stands;
       primitive_fault = λ text e ps f p q. not_both_lists e.cell e.headings text f (ps, p.cell, p.headings, p.stands) q;
       one_primitive_fault = λ text e f g p q. one_list_fault e.cell e.headings text f g p q;
-      grid = λ from text. grid_once (one_grid text) from;
-      grid_fault = λ from text e cells f (file, p, on, is) q. not_both_grids text f (file, cells, p) q;
+      grid = λ from text. grid_once from (one_grid from.states text);
+      grid_fault = λ from text e cells f (file, p, on, is) q. not_both_grids from.states text f (file, cells, p) q;
       grid_end_off = λ from text e cells end (file, p, on, is) (other, others, q, off).
           on_and_off _ _ _ end on (subst (λ d. IsFirstOff (IsSquareOn d) from.start from.goal end)
-          (one_grid text other file others cells q p).0 off);
-      grid_end_fault = λ from text end f (file, cells, p, off) q. not_both_grids text f (file, cells, p) q;
+          (one_grid from.states text other file others cells q p).0 off);
+      grid_end_fault = λ from text end f (file, cells, p, off) q. not_both_grids from.states text f (file, cells, p) q;
       one_grid_end = λ from text end other (file, cells, p, off) (file', cells', q, also).
           one_off _ _ _ end other off (subst (λ d. IsFirstOff (IsSquareOn d) from.start from.goal other)
-          (one_grid text file' file cells' cells q p).0 also);
+          (one_grid from.states text file' file cells' cells q p).0 also);
       one_grid_fault = one_grid_fault;
       changes = updates_once;
       change_fault = not_both_updates;
@@ -116,44 +117,46 @@ updates_by : (batches others : List (List Write)) (moves more : Option (List (Op
 updates_by batches others moves more a b = λ i. record { batches = a i; moves = b i }
 
 pub updates_once_for :
-    ((m : CellMap) (text : List ℕ) (batches others : List (List Write)) → changes.IsTextOf m text batches
-    → changes.IsTextOf m text others → batches ≡ others)
-    → ((m : CellMap) (headings : ℕ) (text : List ℕ) (batches others : List (List Write))
-    (moves more : List (Option Place)) → changes.IsMovesTextOf m headings text batches moves
-    → changes.IsMovesTextOf m headings text others more → (batches ≡ others) × (moves ≡ more))
+    ((states : ℕ) (m : CellMap) (text : List ℕ) (batches others : List (List Write)) → changes.IsTextOf states m text batches
+    → changes.IsTextOf states m text others → batches ≡ others)
+    → ((states : ℕ) (m : CellMap) (headings : ℕ) (text : List ℕ) (batches others : List (List Write))
+    (moves more : List (Option Place)) → changes.IsMovesTextOf states m headings text batches moves
+    → changes.IsMovesTextOf states m headings text others more → (batches ≡ others) × (moves ≡ more))
     → (s : Scope) (text : List ℕ) (c d : Updates) → IsChangeText s text c → IsChangeText s text d → c ≡ d
 updates_once_for still moving s text c d x y = by_headings s.headings x y
   where
-    by_headings : (o : Option ℕ) → IsChangeText (record { map = s.map; headings = o }) text c
-        → IsChangeText (record { map = s.map; headings = o }) text d → c ≡ d
+    by_headings : (o : Option ℕ) → IsChangeText (record { states = s.states; map = s.map; headings = o }) text c
+        → IsChangeText (record { states = s.states; map = s.map; headings = o }) text d → c ≡ d
     by_headings None x y =
-        updates_by c.batches d.batches c.moves d.moves (still s.map text c.batches d.batches x.0 y.0) (x.1 ∙ sym y.1)
+        updates_by c.batches d.batches c.moves d.moves (still s.states s.map text c.batches d.batches x.0 y.0) (x.1 ∙ sym y.1)
     by_headings (Some headings) (moves, is, x) (more, also, y) =
-        let both = moving s.map headings text c.batches d.batches moves more x y in
+        let both = moving s.states s.map headings text c.batches d.batches moves more x y in
         let same = both.1 in
         updates_by c.batches d.batches c.moves d.moves both.0 (is ∙ (λ i. Some (same i)) ∙ sym also)
 
 pub not_both_for :
-    ((m : CellMap) (text : List ℕ) (f : ChangeFault) → changes.IsText m text → change_faults.HasFault m text f → ⊥)
-    → ((m : CellMap) (headings : ℕ) (text : List ℕ) (f : ChangeFault) → changes.IsMovesText m headings text
-    → change_faults.HasMovesFault m headings text f → ⊥)
+    ((states : ℕ) (m : CellMap) (text : List ℕ) (f : ChangeFault) → changes.IsText states m text
+    → change_faults.HasFault states m text f → ⊥)
+    → ((states : ℕ) (m : CellMap) (headings : ℕ) (text : List ℕ) (f : ChangeFault) → changes.IsMovesText states m headings text
+    → change_faults.HasMovesFault states m headings text f → ⊥)
     → (s : Scope) (text : List ℕ) (c : Updates) (f : ChangeFault) → IsChangeText s text c → HasChangeFault s text f → ⊥
 not_both_for still moving s text c f x y = by_headings s.headings x y
   where
-    by_headings : (o : Option ℕ) → IsChangeText (record { map = s.map; headings = o }) text c
-        → HasChangeFault (record { map = s.map; headings = o }) text f → ⊥
-    by_headings None x y = still s.map text f (c.batches, x.0) y
-    by_headings (Some headings) (moves, is, x) y = moving s.map headings text f (c.batches, moves, x) y
+    by_headings : (o : Option ℕ) → IsChangeText (record { states = s.states; map = s.map; headings = o }) text c
+        → HasChangeFault (record { states = s.states; map = s.map; headings = o }) text f → ⊥
+    by_headings None x y = still s.states s.map text f (c.batches, x.0) y
+    by_headings (Some headings) (moves, is, x) y = moving s.states s.map headings text f (c.batches, moves, x) y
 
 pub one_fault_for :
-    ((m : CellMap) (text : List ℕ) (f g : ChangeFault) → change_faults.HasFault m text f
-    → change_faults.HasFault m text g → f ≡ g)
-    → ((m : CellMap) (headings : ℕ) (text : List ℕ) (f g : ChangeFault) → change_faults.HasMovesFault m headings text f
-    → change_faults.HasMovesFault m headings text g → f ≡ g)
+    ((states : ℕ) (m : CellMap) (text : List ℕ) (f g : ChangeFault) → change_faults.HasFault states m text f
+    → change_faults.HasFault states m text g → f ≡ g)
+    → ((states : ℕ) (m : CellMap) (headings : ℕ) (text : List ℕ) (f g : ChangeFault)
+    → change_faults.HasMovesFault states m headings text f
+    → change_faults.HasMovesFault states m headings text g → f ≡ g)
     → (s : Scope) (text : List ℕ) (f g : ChangeFault) → HasChangeFault s text f → HasChangeFault s text g → f ≡ g
 one_fault_for still moving s text f g x y = by_headings s.headings x y
   where
-    by_headings : (o : Option ℕ) → HasChangeFault (record { map = s.map; headings = o }) text f
-        → HasChangeFault (record { map = s.map; headings = o }) text g → f ≡ g
-    by_headings None x y = still s.map text f g x y
-    by_headings (Some headings) x y = moving s.map headings text f g x y
+    by_headings : (o : Option ℕ) → HasChangeFault (record { states = s.states; map = s.map; headings = o }) text f
+        → HasChangeFault (record { states = s.states; map = s.map; headings = o }) text g → f ≡ g
+    by_headings None x y = still s.states s.map text f g x y
+    by_headings (Some headings) x y = moving s.states s.map headings text f g x y

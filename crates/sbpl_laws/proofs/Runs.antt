@@ -645,42 +645,42 @@ module _ (before after : DeskState) (old new : List Entry) where
         → TellsGrid held from w → changes_of j ≡ Some name → TellsTooMuch (held name) → IsOrFailed 8 status
     run_grid_changes_long clear ends j from w name names is tells file much =
         by_early j (grid_files from) (changes_of j) 8 (grid_reads j from is) ends names
-        (changes_long clear held Failed (grid_files from) (changes_of j) (grid_scope w)
+        (changes_long clear held Failed (grid_files from) (changes_of j) (grid_scope from.states w)
         (good_grid clear held Failed from w tells) name file much)
-        (changes_long_none clear held Failed (grid_files from) (changes_of j) (grid_scope w)
+        (changes_long_none clear held Failed (grid_files from) (changes_of j) (grid_scope from.states w)
         (good_grid clear held Failed from w tells) name file much)
 
     pub run_grid_changes_faulty : TextsAreClear → EndsRun named before after old new status
         → (j : Job) (from : GridSources) (w : GridWorld) (f : ChangeFault) → named ≡ Some j → grid_of j ≡ Some from
-        → TellsGrid held from w → TellsChangeFault held (changes_of j) (grid_scope w) f → IsOrFailed 5 status
+        → TellsGrid held from w → TellsChangeFault held (changes_of j) (grid_scope from.states w) f → IsOrFailed 5 status
     run_grid_changes_faulty clear ends j from w f names is tells faulty =
         by_early j (grid_files from) (changes_of j) 5 (grid_reads j from is) ends names
-        (changes_faulty clear held Failed (grid_files from) (changes_of j) (grid_scope w)
+        (changes_faulty clear held Failed (grid_files from) (changes_of j) (grid_scope from.states w)
         (good_grid clear held Failed from w tells) f faulty)
-        (changes_faulty_none clear held Failed (grid_files from) (changes_of j) (grid_scope w)
+        (changes_faulty_none clear held Failed (grid_files from) (changes_of j) (grid_scope from.states w)
         (good_grid clear held Failed from w tells) f faulty)
 
     pub run_grid_complete : TextsAreClear → EndsRun named before after old new status
         → (j : Job) (from : GridSources) (w : GridWorld) (c : Updates) → named ≡ Some j → grid_of j ≡ Some from
-        → TellsGrid held from w → TellsUpdates held (changes_of j) (grid_scope w) c → IsNoCheck j → IsOrFailed 0 status
+        → TellsGrid held from w → TellsUpdates held (changes_of j) (grid_scope from.states w) c → IsNoCheck j → IsOrFailed 0 status
     run_grid_complete clear ends j from w c names is tells told plain =
         by_each j 0 ends names (λ i gives. served j i plain by_cause gives)
       where
         by_cause : (r : Refusal) → IsJobCause held Failed j r → IsOrFailed 0 (refusal_status r)
         by_cause r cause = elim ((grid_reads j from is).cause held Failed r cause) [
           | inl early ↦
-              all_good clear held Failed (grid_files from) (changes_of j) (grid_scope w)
+              all_good clear held Failed (grid_files from) (changes_of j) (grid_scope from.states w)
               (good_grid clear held Failed from w tells) c 0 told r early
           | inr (updates, checks) ↦ absurd (checks plain)
         ]
 
     -- where the file stands for a world and map updates, a check is refused for its file of labels alone
     nav_check_refused : TextsAreClear → (n : NavCheckJob) (w : GridWorld) (updates : Updates) (wanted : ℕ)
-        → TellsGrid held n.sources w → TellsUpdates held n.changes (grid_scope w) updates
+        → TellsGrid held n.sources w → TellsUpdates held n.changes (grid_scope n.sources.states w) updates
         → (IsTooLong (held n.labels) → IsOrFailed wanted 8) → (r : Refusal) → IsJobCause held Failed (job.NavCheck n) r
         → IsOrFailed wanted (refusal_status r)
     nav_check_refused clear n w updates wanted tells told long r (inl cause) =
-        all_good clear held Failed (grid_files n.sources) n.changes (grid_scope w)
+        all_good clear held Failed (grid_files n.sources) n.changes (grid_scope n.sources.states w)
         (good_grid clear held Failed n.sources w tells) updates wanted told r cause
     nav_check_refused clear n w updates wanted tells told long r (inr cause) =
         labels_refused held Failed (grid_files n.sources) n.changes n.labels wanted r long cause
@@ -688,7 +688,7 @@ module _ (before after : DeskState) (old new : List Entry) where
     nav_checked_alike : TextsAreClear → SectionsAreClear → OneMap
         → (n : NavCheckJob) (w : GridWorld) (updates : Updates) (text : List ℕ) (goals : ℕ → ℕ) (os : List Outcome)
         (end : Option SectionStop) → end ≢ Some section.NoMemory → TellsGrid held n.sources w
-        → TellsUpdates held n.changes (grid_scope w) updates
+        → TellsUpdates held n.changes (grid_scope n.sources.states w) updates
         → Tells (held n.labels) text
         → IsCheckedIn IsHolding grid_site w updates text goals os end
         → ((r : Refusal) → IsJobCause held Failed (job.NavCheck n) r
@@ -702,8 +702,9 @@ module _ (before after : DeskState) (old new : List Entry) where
         (Checked goal' os' end') gives =
         let near : gives.world ≡ w = same_grid clear held Failed n.sources w gives.world tells gives.says in
         let same : gives.updates ≡ updates =
-        same_updates clear held n.changes (grid_scope w) updates gives.updates told
-        (subst (λ (v : GridWorld). ReadsUpdates held n.changes (grid_scope v) gives.updates) near gives.changes_say) in
+        same_updates clear held n.changes (grid_scope n.sources.states w) updates gives.updates told
+        (subst (λ (v : GridWorld). ReadsUpdates held n.changes (grid_scope n.sources.states v) gives.updates) near
+        gives.changes_say) in
         let same_text : gives.text ≡ text = told_is (held n.labels) text gives.text held_text.held_bytes gives.read in
         checked_ends_alike grid_site AreOneGrid grids_alike false
         (goes_alike grid_site AreOneGrid grids_alike false) sections one w gives.world updates gives.updates text
@@ -714,7 +715,7 @@ module _ (before after : DeskState) (old new : List Entry) where
     pub run_grid_checked : TextsAreClear → SectionsAreClear → OneMap → EndsRun named before after old new status
         → (n : NavCheckJob) (w : GridWorld) (updates : Updates) (text : List ℕ) (goals : ℕ → ℕ) (os : List Outcome)
         (end : Option SectionStop) → named ≡ Some (job.NavCheck n) → TellsGrid held n.sources w
-        → TellsUpdates held n.changes (grid_scope w) updates → Tells (held n.labels) text
+        → TellsUpdates held n.changes (grid_scope n.sources.states w) updates → Tells (held n.labels) text
         → IsCheckedIn IsHolding grid_site w updates text goals os end
         → end ≢ Some section.NoMemory → IsOrFailed (checked_status end) status
     run_grid_checked clear sections one ends n w updates text goals os end names tells told held_text is some =
@@ -726,7 +727,7 @@ module _ (before after : DeskState) (old new : List Entry) where
 
     pub run_grid_labels_long : TextsAreClear → EndsRun named before after old new status
         → (n : NavCheckJob) (w : GridWorld) (updates : Updates) → named ≡ Some (job.NavCheck n) → TellsGrid held n.sources w
-        → TellsUpdates held n.changes (grid_scope w) updates → TellsTooMuch (held n.labels) → IsOrFailed 8 status
+        → TellsUpdates held n.changes (grid_scope n.sources.states w) updates → TellsTooMuch (held n.labels) → IsOrFailed 8 status
     run_grid_labels_long clear ends n w updates names tells told much = by_each (job.NavCheck n) 8 ends names long_by
       where
         long_by : (i : Intent) → GivesIntent held Failed (job.NavCheck n) i → IsOrFailed 8 (intent_status i)
@@ -763,12 +764,13 @@ module _ (before after : DeskState) (old new : List Entry) where
 
     -- where the files stand for a world and map updates, a check is refused for its file of labels alone
     check_refused : TextsAreClear → (c : CheckJob) (w : World) (updates : Updates) (wanted : ℕ)
-        → TellsWorld held c.sources w → TellsUpdates held c.changes (scope_of c.back w) updates
+        → TellsWorld held c.sources w → TellsUpdates held c.changes (scope_of c.sources.states c.back w) updates
         → (IsTooLong (held c.labels) → IsOrFailed wanted 8) → (r : Refusal) → IsJobCause held Failed (job.Check c) r
         → IsOrFailed wanted (refusal_status r)
     check_refused clear c w updates wanted tells told long r (inl cause) =
-        all_good clear held Failed (check_files c) c.changes (scope_of c.back w) (good_files clear held Failed c.sources
-        c.back (scope_of c.back w) (world_good clear held Failed c.sources c.back w tells)) updates wanted told r cause
+        let scope = scope_of c.sources.states c.back w in
+        let good = good_files clear held Failed c.sources c.back scope (world_good clear held Failed c.sources c.back w tells) in
+        all_good clear held Failed (check_files c) c.changes scope good updates wanted told r cause
     check_refused clear c w updates wanted tells told long r (inr cause) =
         labels_refused held Failed (check_files c) c.changes c.labels wanted r long cause
 
@@ -776,7 +778,7 @@ module _ (before after : DeskState) (old new : List Entry) where
     checked_alike : TextsAreClear → SectionsAreClear → OneMap → AlikeWorldsAreOneGraph
         → (c : CheckJob) (w : World) (updates : Updates) (text : List ℕ) (goals : ℕ → ℕ) (os : List Outcome)
         (end : Option SectionStop) → end ≢ Some section.NoMemory → TellsWorld held c.sources w
-        → TellsUpdates held c.changes (scope_of c.back w) updates → Tells (held c.labels) text
+        → TellsUpdates held c.changes (scope_of c.sources.states c.back w) updates → Tells (held c.labels) text
         → IsCheckedIn IsHolding (searched_on lattice_site c.back) w updates text goals os end
         → ((r : Refusal) → IsJobCause held Failed (job.Check c) r → IsOrFailed (checked_status end) (refusal_status r))
         → (i : Intent) → GivesIntent held Failed (job.Check c) i → IsOrFailed (checked_status end) (intent_status i)
@@ -799,11 +801,11 @@ module _ (before after : DeskState) (old new : List Entry) where
         let prims =
         same_primitives clear held c.sources w.env v.env gives.says.cells w.prims v.prims tells.environment
         tells.primitives gives.says.environment gives.says.primitives in
-        let scope = same_scope clear held c.sources c.back (scope_of c.back w) v good.scope gives.says in
+        let scope = same_scope clear held c.sources c.back (scope_of c.sources.states c.back w) v good.scope gives.says in
         let map = ap (λ (s : Scope). s.map) scope in
         let radius = gives.says.sweeps.radius_is ∙ sym tells.says.sweeps.radius_is in
         let same : gives.updates ≡ updates =
-        same_updates clear held c.changes (scope_of c.back w) updates gives.updates told
+        same_updates clear held c.changes (scope_of c.sources.states c.back w) updates gives.updates told
         (subst (λ (s : Scope). ReadsUpdates held c.changes s gives.updates) scope gives.changes_say) in
         let same_text : gives.text ≡ text = told_is (held c.labels) text gives.text held_text.held_bytes gives.read in
         let near : AreAlikeWorlds w v = record { env = env; prims = prims; map = map; radius = radius } in
@@ -816,7 +818,7 @@ module _ (before after : DeskState) (old new : List Entry) where
         → EndsRun named before after old new status
         → (c : CheckJob) (w : World) (updates : Updates) (text : List ℕ) (goals : ℕ → ℕ) (os : List Outcome)
         (end : Option SectionStop) → named ≡ Some (job.Check c) → TellsWorld held c.sources w
-        → TellsUpdates held c.changes (scope_of c.back w) updates → Tells (held c.labels) text
+        → TellsUpdates held c.changes (scope_of c.sources.states c.back w) updates → Tells (held c.labels) text
         → IsCheckedIn IsHolding (searched_on lattice_site c.back) w updates text goals os end
         → end ≢ Some section.NoMemory → IsOrFailed (checked_status end) status
     run_checked clear sections one alike ends c w updates text goals os end names tells told held_text is some =
@@ -829,7 +831,8 @@ module _ (before after : DeskState) (old new : List Entry) where
     -- a file of labels that is too long
     pub run_labels_long : TextsAreClear → EndsRun named before after old new status
         → (c : CheckJob) (w : World) (updates : Updates) → named ≡ Some (job.Check c) → TellsWorld held c.sources w
-        → TellsUpdates held c.changes (scope_of c.back w) updates → TellsTooMuch (held c.labels) → IsOrFailed 8 status
+        → TellsUpdates held c.changes (scope_of c.sources.states c.back w) updates → TellsTooMuch (held c.labels)
+        → IsOrFailed 8 status
     run_labels_long clear ends c w updates names tells told much = by_each (job.Check c) 8 ends names long_by
       where
         long_by : (i : Intent) → GivesIntent held Failed (job.Check c) i → IsOrFailed 8 (intent_status i)

@@ -30,11 +30,12 @@ read_once None t u told x y = absurd (false≢true told)
 read_once (Some text) t u told x y = x.told ∙ sym y.told
 
 -- alike worlds give a change file one scope
-pub alike_scopes : (moving : Bool) (w v : World) → AreAlikeWorlds w v → scope_of moving v ≡ scope_of moving w
-alike_scopes moving w v alike =
+pub alike_scopes : (states : ℕ) (moving : Bool) (w v : World) → AreAlikeWorlds w v
+    → scope_of states moving v ≡ scope_of states moving w
+alike_scopes states moving w v alike =
     let env = alike.env in
     let map = alike.map in
-    λ i. scope_for moving (env i) (map i)
+    λ i. scope_for states moving (env i) (map i)
 
 module _ (clear : TextsAreClear) (held : Told) where
   -- the files stand for one world except for how cells stand in the tables of sweeps
@@ -129,7 +130,7 @@ pub lattices_stand_for_one : (clear : TextsAreClear) (held : Told) (from : Sourc
     → IsSome (held from.env) → IsSome (held from.prims) → StandForOne held (lattice_files from moving) AreAlikeWorlds
 lattices_stand_for_one clear held from moving told_env told_prims = record {
   one = λ w v. one_world clear held from w v told_env told_prims;
-  scope = alike_scopes moving;
+  scope = alike_scopes from.states moving;
 }
 
 -- those of a grid stand for one world
@@ -142,5 +143,5 @@ grids_stand_for_one clear held from told = record {
       subst (λ (t : List ℕ). IsGridFor from t v.env y.cells) text y.stands in
       let both = clear.grid from x.text w.env v.env x.cells y.cells x.stands own in
       grid_by w v x.cells y.cells both.0 both.1 x.map y.map;
-  scope = λ w v same. ap grid_scope (sym same);
+  scope = λ w v same. ap (grid_scope from.states) (sym same);
 }

@@ -21,9 +21,9 @@ use Rattle.sbpl_map.specs.declared.fault.ChangeFault.{ChangeFault}
 use Rattle.sbpl_map.specs.declared.fault.ChangeFault.TheVariants.{Word, Number, Range, OffMap, NoReplan, NoMemory}
 
 -- what was judged is true of the line
-abbrev pub Verdict : CellMap → Option ℕ → ℕ → List (List ℕ) → Result Said ChangeFault → Type 0
-Verdict m headings at line (Ok s) = LineTells m headings line s
-Verdict m headings at line (Err f) = HasLineFault m headings at line f
+abbrev pub Verdict : (states : ℕ) → CellMap → Option ℕ → ℕ → List (List ℕ) → Result Said ChangeFault → Type 0
+Verdict states m headings at line (Ok s) = LineTells states m headings line s
+Verdict states m headings at line (Err f) = HasLineFault states m headings at line f
 
 -- ---- a number
 
@@ -59,9 +59,9 @@ number_of field l e = absurd (let bad : true ≡ false = rw e at l in false≢tr
 
 -- ---- three numbers
 
-record Ranges (limit : ℕ) (x y z : List ℕ) (ox oy oz : Option ℕ) : Type 0 where
-  column : in_range 8388608 (whole_of x) ≡ ox
-  row : in_range 8388608 (whole_of y) ≡ oy
+record Ranges (states limit : ℕ) (x y z : List ℕ) (ox oy oz : Option ℕ) : Type 0 where
+  column : in_range states (whole_of x) ≡ ox
+  row : in_range states (whole_of y) ≡ oy
   third : in_range limit (whole_of z) ≡ oz
 
 record Forms (x y z : List ℕ) : Type 0 where
@@ -76,14 +76,14 @@ no_forms x y z f h = elim h [
 ]
 
 -- what was measured is true of the three fields
-abbrev ThreeVerdict : CellMap → ℕ → (limit : ℕ) → List ℕ → List ℕ → List ℕ → Result Three ChangeFault → Type 0
-ThreeVerdict m at limit x y z (Ok n) = Give limit x y z n.0 n.1 n.2 × IsCellOnMap m n.0 n.1
-ThreeVerdict m at limit x y z (Err (Word k)) = ⊥
-ThreeVerdict m at limit x y z (Err (Number k)) = (k ≡ at) × HaveNoNumber x y z
-ThreeVerdict m at limit x y z (Err (Range k)) = (k ≡ at) × AreOutside limit x y z
-ThreeVerdict m at limit x y z (Err (OffMap k)) = (k ≡ at) × AreOffMap m limit x y z
-ThreeVerdict m at limit x y z (Err (NoReplan k)) = ⊥
-ThreeVerdict m at limit x y z (Err NoMemory) = ⊥
+abbrev ThreeVerdict : (states : ℕ) → CellMap → ℕ → (limit : ℕ) → List ℕ → List ℕ → List ℕ → Result Three ChangeFault → Type 0
+ThreeVerdict states m at limit x y z (Ok n) = Give states limit x y z n.0 n.1 n.2 × IsCellOnMap m n.0 n.1
+ThreeVerdict states m at limit x y z (Err (Word k)) = ⊥
+ThreeVerdict states m at limit x y z (Err (Number k)) = (k ≡ at) × HaveNoNumber x y z
+ThreeVerdict states m at limit x y z (Err (Range k)) = (k ≡ at) × AreOutside states limit x y z
+ThreeVerdict states m at limit x y z (Err (OffMap k)) = (k ≡ at) × AreOffMap states m limit x y z
+ThreeVerdict states m at limit x y z (Err (NoReplan k)) = ⊥
+ThreeVerdict states m at limit x y z (Err NoMemory) = ⊥
 
 tests_of : (m : CellMap) (a b : ℕ) → IsCellOnMap m a b → (nat_lt a m.width && nat_lt b m.height) ≡ true
 tests_of m a b on =
@@ -94,18 +94,18 @@ cell_of_tests m a b e =
     let both = and_parts (nat_lt a m.width) (nat_lt b m.height) e in
     record { x = ltb-true a m.width both.0; y = ltb-true b m.height both.1 }
 
-on_map_verdict : (m : CellMap) (at limit : ℕ) (x y z : List ℕ) (ox oy oz : Option ℕ) → Forms x y z
-    → Ranges limit x y z ox oy oz → ThreeVerdict m at limit x y z (on_map m at ox oy oz)
-on_map_verdict m at limit x y z None oy oz f r =
-    (refl, record { numbers = no_forms x y z f; outside = inl (outside_of 8388608 x _ refl r.column f.column) })
-on_map_verdict m at limit x y z (Some a) None oz f r =
-    (refl, record { numbers = no_forms x y z f; outside = inr (inl (outside_of 8388608 y _ refl r.row f.row)) })
-on_map_verdict m at limit x y z (Some a) (Some b) None f r =
+on_map_verdict : (states : ℕ) (m : CellMap) (at limit : ℕ) (x y z : List ℕ) (ox oy oz : Option ℕ) → Forms x y z
+    → Ranges states limit x y z ox oy oz → ThreeVerdict states m at limit x y z (on_map m at ox oy oz)
+on_map_verdict states m at limit x y z None oy oz f r =
+    (refl, record { numbers = no_forms x y z f; outside = inl (outside_of states x _ refl r.column f.column) })
+on_map_verdict states m at limit x y z (Some a) None oz f r =
+    (refl, record { numbers = no_forms x y z f; outside = inr (inl (outside_of states y _ refl r.row f.row)) })
+on_map_verdict states m at limit x y z (Some a) (Some b) None f r =
     (refl, record { numbers = no_forms x y z f; outside = inr (inr (outside_of limit z _ refl r.third f.third)) })
-on_map_verdict m at limit x y z (Some a) (Some b) (Some k) f r =
-    let gives : Give limit x y z a b k = record {
-      x_is = gives_of 8388608 x a _ refl r.column;
-      y_is = gives_of 8388608 y b _ refl r.row;
+on_map_verdict states m at limit x y z (Some a) (Some b) (Some k) f r =
+    let gives : Give states limit x y z a b k = record {
+      x_is = gives_of states x a _ refl r.column;
+      y_is = gives_of states y b _ refl r.row;
       z_is = gives_of limit z k _ refl r.third;
     } in
     elim (cases_Bool (nat_lt a m.width && nat_lt b m.height)) [
@@ -114,9 +114,9 @@ on_map_verdict m at limit x y z (Some a) (Some b) (Some k) f r =
           rw e (refl, (a, b, k, gives, off))
     ]
 
-measured_verdict : (m : CellMap) (at limit : ℕ) (x y z : List ℕ)
-    → ThreeVerdict m at limit x y z (measured m at limit (whole_of x) (whole_of y) (whole_of z))
-measured_verdict m at limit x y z =
+measured_verdict : (states : ℕ) (m : CellMap) (at limit : ℕ) (x y z : List ℕ)
+    → ThreeVerdict states m at limit x y z (measured states m at limit (whole_of x) (whole_of y) (whole_of z))
+measured_verdict states m at limit x y z =
     let lx = lacks_form (whole_of x) in
     let ly = lacks_form (whole_of y) in
     let lz = lacks_form (whole_of z) in
@@ -133,31 +133,31 @@ measured_verdict m at limit x y z =
       )
       | inr e ↦ let one = or_parts lx (ly || lz) e in let two = or_parts ly lz one.1 in
           let forms : Forms x y z = record { column = one.0; row = two.0; third = two.1 } in
-          rw e (on_map_verdict m at limit x y z _ _ _ forms (record { column = refl; row = refl; third = refl }))
+          rw e (on_map_verdict states m at limit x y z _ _ _ forms (record { column = refl; row = refl; third = refl }))
     ]
 
 -- ---- lines of three fields
 
-cell_told : (m : CellMap) (headings : Option ℕ) (at : ℕ) (line : List (List ℕ)) (x y z : List ℕ)
+cell_told : (states : ℕ) (m : CellMap) (headings : Option ℕ) (at : ℕ) (line : List (List ℕ)) (x y z : List ℕ)
     (r : Result Three ChangeFault)
-    → line ≡ cell_line x y z → ThreeVerdict m at 256 x y z r → Verdict m headings at line (cell_said r)
-cell_told m headings at line x y z (Ok n) e v = (x, y, z, e, v.0, v.1)
-cell_told m headings at line x y z (Err (Word k)) e v = absurd v
-cell_told m headings at line x y z (Err (Number k)) e v = (v.0, (256, x, y, z, inl (e, refl), v.1))
-cell_told m headings at line x y z (Err (Range k)) e v = (v.0, (256, x, y, z, inl (e, refl), v.1))
-cell_told m headings at line x y z (Err (OffMap k)) e v = (v.0, (256, x, y, z, inl (e, refl), v.1))
-cell_told m headings at line x y z (Err (NoReplan k)) e v = absurd v
-cell_told m headings at line x y z (Err NoMemory) e v = absurd v
+    → line ≡ cell_line x y z → ThreeVerdict states m at 256 x y z r → Verdict states m headings at line (cell_said r)
+cell_told states m headings at line x y z (Ok n) e v = (x, y, z, e, v.0, v.1)
+cell_told states m headings at line x y z (Err (Word k)) e v = absurd v
+cell_told states m headings at line x y z (Err (Number k)) e v = (v.0, (256, x, y, z, inl (e, refl), v.1))
+cell_told states m headings at line x y z (Err (Range k)) e v = (v.0, (256, x, y, z, inl (e, refl), v.1))
+cell_told states m headings at line x y z (Err (OffMap k)) e v = (v.0, (256, x, y, z, inl (e, refl), v.1))
+cell_told states m headings at line x y z (Err (NoReplan k)) e v = absurd v
+cell_told states m headings at line x y z (Err NoMemory) e v = absurd v
 
-start_told : (m : CellMap) (limit at : ℕ) (line : List (List ℕ)) (x y z : List ℕ) (r : Result Three ChangeFault)
-    → line ≡ start_line x y z → ThreeVerdict m at limit x y z r → Verdict m (Some limit) at line (start_said r)
-start_told m limit at line x y z (Ok n) e v = (x, y, z, e, (limit, refl, v.0), v.1)
-start_told m limit at line x y z (Err (Word k)) e v = absurd v
-start_told m limit at line x y z (Err (Number k)) e v = (v.0, (limit, x, y, z, inr (e, refl), v.1))
-start_told m limit at line x y z (Err (Range k)) e v = (v.0, (limit, x, y, z, inr (e, refl), v.1))
-start_told m limit at line x y z (Err (OffMap k)) e v = (v.0, (limit, x, y, z, inr (e, refl), v.1))
-start_told m limit at line x y z (Err (NoReplan k)) e v = absurd v
-start_told m limit at line x y z (Err NoMemory) e v = absurd v
+start_told : (states : ℕ) (m : CellMap) (limit at : ℕ) (line : List (List ℕ)) (x y z : List ℕ) (r : Result Three ChangeFault)
+    → line ≡ start_line x y z → ThreeVerdict states m at limit x y z r → Verdict states m (Some limit) at line (start_said r)
+start_told states m limit at line x y z (Ok n) e v = (x, y, z, e, (limit, refl, v.0), v.1)
+start_told states m limit at line x y z (Err (Word k)) e v = absurd v
+start_told states m limit at line x y z (Err (Number k)) e v = (v.0, (limit, x, y, z, inr (e, refl), v.1))
+start_told states m limit at line x y z (Err (Range k)) e v = (v.0, (limit, x, y, z, inr (e, refl), v.1))
+start_told states m limit at line x y z (Err (OffMap k)) e v = (v.0, (limit, x, y, z, inr (e, refl), v.1))
+start_told states m limit at line x y z (Err (NoReplan k)) e v = absurd v
+start_told states m limit at line x y z (Err NoMemory) e v = absurd v
 
 -- ---- lines
 
@@ -196,26 +196,26 @@ other_start headings word more e n = record {
   ];
 }
 
-cell_verdict : (m : CellMap) (headings : Option ℕ) (at : ℕ) (word : List ℕ) (more : List (List ℕ))
-    → word ≡ codes "cell" → Verdict m headings at (word ∷ more) (cell_said (numbers m at 256 (three more)))
-cell_verdict m headings at word [] e = (refl, other_cell headings word [] e (λ _ _ _ h. cc))
-cell_verdict m headings at word (x ∷ []) e = (refl, other_cell headings word (x ∷ []) e (λ _ _ _ h. cc))
-cell_verdict m headings at word (x ∷ y ∷ []) e = (refl, other_cell headings word (x ∷ y ∷ []) e (λ _ _ _ h. cc))
-cell_verdict m headings at word (x ∷ y ∷ z ∷ []) e =
+cell_verdict : (states : ℕ) (m : CellMap) (headings : Option ℕ) (at : ℕ) (word : List ℕ) (more : List (List ℕ))
+    → word ≡ codes "cell" → Verdict states m headings at (word ∷ more) (cell_said (numbers states m at 256 (three more)))
+cell_verdict states m headings at word [] e = (refl, other_cell headings word [] e (λ _ _ _ h. cc))
+cell_verdict states m headings at word (x ∷ []) e = (refl, other_cell headings word (x ∷ []) e (λ _ _ _ h. cc))
+cell_verdict states m headings at word (x ∷ y ∷ []) e = (refl, other_cell headings word (x ∷ y ∷ []) e (λ _ _ _ h. cc))
+cell_verdict states m headings at word (x ∷ y ∷ z ∷ []) e =
     let line_is = ap (λ w. w ∷ x ∷ y ∷ z ∷ []) e in
-    cell_told m headings at (word ∷ x ∷ y ∷ z ∷ []) x y z _ line_is (measured_verdict m at 256 x y z)
-cell_verdict m headings at word (x ∷ y ∷ z ∷ d ∷ more) e =
+    cell_told states m headings at (word ∷ x ∷ y ∷ z ∷ []) x y z _ line_is (measured_verdict states m at 256 x y z)
+cell_verdict states m headings at word (x ∷ y ∷ z ∷ d ∷ more) e =
     (refl, other_cell headings word (x ∷ y ∷ z ∷ d ∷ more) e (λ _ _ _ h. cc))
 
-start_verdict : (m : CellMap) (headings : Option ℕ) (at : ℕ) (word : List ℕ) (more : List (List ℕ))
-    → word ≡ codes "start" → Verdict m headings at (word ∷ more) (started m headings at more)
-start_verdict m None at word more e = (refl, other_start None word more e (λ limit h. absurd cc))
-start_verdict m (Some n) at word [] e = (refl, other_start (Some n) word [] e (λ _ _ _ _ _ h. cc))
-start_verdict m (Some n) at word (x ∷ []) e = (refl, other_start (Some n) word (x ∷ []) e (λ _ _ _ _ _ h. cc))
-start_verdict m (Some n) at word (x ∷ y ∷ []) e = (refl, other_start (Some n) word (x ∷ y ∷ []) e (λ _ _ _ _ _ h. cc))
-start_verdict m (Some n) at word (x ∷ y ∷ z ∷ []) e =
-    start_told m n at (word ∷ x ∷ y ∷ z ∷ []) x y z _ (ap (λ w. w ∷ x ∷ y ∷ z ∷ []) e) (measured_verdict m at n x y z)
-start_verdict m (Some n) at word (x ∷ y ∷ z ∷ d ∷ more) e =
+start_verdict : (states : ℕ) (m : CellMap) (headings : Option ℕ) (at : ℕ) (word : List ℕ) (more : List (List ℕ))
+    → word ≡ codes "start" → Verdict states m headings at (word ∷ more) (started states m headings at more)
+start_verdict states m None at word more e = (refl, other_start None word more e (λ limit h. absurd cc))
+start_verdict states m (Some n) at word [] e = (refl, other_start (Some n) word [] e (λ _ _ _ _ _ h. cc))
+start_verdict states m (Some n) at word (x ∷ []) e = (refl, other_start (Some n) word (x ∷ []) e (λ _ _ _ _ _ h. cc))
+start_verdict states m (Some n) at word (x ∷ y ∷ []) e = (refl, other_start (Some n) word (x ∷ y ∷ []) e (λ _ _ _ _ _ h. cc))
+start_verdict states m (Some n) at word (x ∷ y ∷ z ∷ []) e =
+    start_told states m n at (word ∷ x ∷ y ∷ z ∷ []) x y z _ (ap (λ w. w ∷ x ∷ y ∷ z ∷ []) e) (measured_verdict states m at n x y z)
+start_verdict states m (Some n) at word (x ∷ y ∷ z ∷ d ∷ more) e =
     (refl, other_start (Some n) word (x ∷ y ∷ z ∷ d ∷ more) e (λ _ _ _ _ _ h. cc))
 
 -- no line of three fields begins with another word
@@ -226,29 +226,29 @@ no_three_of headings word more c s limit x y z h = elim h [
   | inr p ↦ (let q = p.0 in s cc)
 ]
 
-replan_verdict : (m : CellMap) (headings : Option ℕ) (at : ℕ) (word : List ℕ) (more : List (List ℕ))
+replan_verdict : (states : ℕ) (m : CellMap) (headings : Option ℕ) (at : ℕ) (word : List ℕ) (more : List (List ℕ))
     → word ≢ codes "cell" → word ≢ codes "start" → word ≡ codes "replan"
-    → Verdict m headings at (word ∷ more) (ended at more)
-replan_verdict m headings at word [] c s e = ap (λ w. w ∷ []) e
-replan_verdict m headings at word (x ∷ more) c s e =
+    → Verdict states m headings at (word ∷ more) (ended at more)
+replan_verdict states m headings at word [] c s e = ap (λ w. w ∷ []) e
+replan_verdict states m headings at word (x ∷ more) c s e =
     (refl, record { some = λ h. cc; no_replan = λ h. cc; no_three = no_three_of headings word (x ∷ more) c s })
 
-pub judged_verdict : (m : CellMap) (headings : Option ℕ) (at : ℕ) (line : List (List ℕ))
-    → Verdict m headings at line (judged m headings at line)
+pub judged_verdict : (states : ℕ) (m : CellMap) (headings : Option ℕ) (at : ℕ) (line : List (List ℕ))
+    → Verdict states m headings at line (judged states m headings at line)
 unfolding judged
-judged_verdict m headings at [] = refl
-judged_verdict m headings at (word ∷ more) =
+judged_verdict states m headings at [] = refl
+judged_verdict states m headings at (word ∷ more) =
     let is_cell = bytes_eq-Decides word (codes "cell") in
     let is_start = bytes_eq-Decides word (codes "start") in
     let is_replan = bytes_eq-Decides word (codes "replan") in
     elim (cases_Bool (bytes_eq word (codes "cell"))) [
-      | inl e ↦ rw e (cell_verdict m headings at word more (is_cell.0 e))
+      | inl e ↦ rw e (cell_verdict states m headings at word more (is_cell.0 e))
       | inr e ↦ let no_cell : word ≢ codes "cell" = λ h. false≢true (sym e ∙ is_cell.1 h) in
           elim (cases_Bool (bytes_eq word (codes "start"))) [
-            | inl d ↦ rw (e, d) (start_verdict m headings at word more (is_start.0 d))
+            | inl d ↦ rw (e, d) (start_verdict states m headings at word more (is_start.0 d))
             | inr d ↦ let no_start : word ≢ codes "start" = λ h. false≢true (sym d ∙ is_start.1 h) in
                 elim (cases_Bool (bytes_eq word (codes "replan"))) [
-                  | inl k ↦ rw (e, d, k) (replan_verdict m headings at word more no_cell no_start (is_replan.0 k))
+                  | inl k ↦ rw (e, d, k) (replan_verdict states m headings at word more no_cell no_start (is_replan.0 k))
                   | inr k ↦ rw (e, d, k) (
                     refl,
                     record {
@@ -298,9 +298,9 @@ one_outside m at (Some a) (Some b) (Some k) h = absurd (elim h [
   | inr o ↦ elim o [ inl e ↦ grind arith | inr e ↦ grind arith ]
 ])
 
-no_number_judged : (m : CellMap) (at limit : ℕ) (x y z : List ℕ) → HaveNoNumber x y z
-    → measured m at limit (whole_of x) (whole_of y) (whole_of z) ≡ Err (Number at)
-no_number_judged m at limit x y z h =
+no_number_judged : (states : ℕ) (m : CellMap) (at limit : ℕ) (x y z : List ℕ) → HaveNoNumber x y z
+    → measured states m at limit (whole_of x) (whole_of y) (whole_of z) ≡ Err (Number at)
+no_number_judged states m at limit x y z h =
     let lx = lacks_form (whole_of x) in
     let ly = lacks_form (whole_of y) in
     let lz = lacks_form (whole_of z) in
@@ -313,99 +313,99 @@ no_number_judged m at limit x y z h =
     ] in
     rw some refl
 
-have_forms : (m : CellMap) (at limit : ℕ) (x y z : List ℕ) → lacks_form (whole_of x) ≡ false
+have_forms : (states : ℕ) (m : CellMap) (at limit : ℕ) (x y z : List ℕ) → lacks_form (whole_of x) ≡ false
     → lacks_form (whole_of y) ≡ false → lacks_form (whole_of z) ≡ false
-    → measured m at limit (whole_of x) (whole_of y) (whole_of z) ≡ on_map m at (in_range 8388608 (whole_of x))
-    (in_range 8388608 (whole_of y)) (in_range limit (whole_of z))
-have_forms m at limit x y z fx fy fz =
+    → measured states m at limit (whole_of x) (whole_of y) (whole_of z) ≡ on_map m at (in_range states (whole_of x))
+    (in_range states (whole_of y)) (in_range limit (whole_of z))
+have_forms states m at limit x y z fx fy fz =
     let last_two = or_from (lacks_form (whole_of y)) (lacks_form (whole_of z)) fy fz in
     let none = or_from (lacks_form (whole_of x)) (lacks_form (whole_of y) || lacks_form (whole_of z)) fx last_two in
     rw none refl
 
-range_judged : (m : CellMap) (at limit : ℕ) (x y z : List ℕ) → AreOutside limit x y z
-    → measured m at limit (whole_of x) (whole_of y) (whole_of z) ≡ Err (Range at)
-range_judged m at limit x y z h =
+range_judged : (states : ℕ) (m : CellMap) (at limit : ℕ) (x y z : List ℕ) → AreOutside states limit x y z
+    → measured states m at limit (whole_of x) (whole_of y) (whole_of z) ≡ Err (Range at)
+range_judged states m at limit x y z h =
     let fx = form_not_missing x _ refl (λ e. h.numbers (inl e)) in
     let fy = form_not_missing y _ refl (λ e. h.numbers (inr (inl e))) in
     let fz = form_not_missing z _ refl (λ e. h.numbers (inr (inr e))) in
-    have_forms m at limit x y z fx fy fz ∙ one_outside m at _ _ _ (elim h.outside [
-      | inl o ↦ inl (range_outside 8388608 x o)
-      | inr o ↦ inr (elim o [ inl p ↦ inl (range_outside 8388608 y p) | inr p ↦ inr (range_outside limit z p) ])
+    have_forms states m at limit x y z fx fy fz ∙ one_outside m at _ _ _ (elim h.outside [
+      | inl o ↦ inl (range_outside states x o)
+      | inr o ↦ inr (elim o [ inl p ↦ inl (range_outside states y p) | inr p ↦ inr (range_outside limit z p) ])
     ])
 
-give_judged : (m : CellMap) (at limit : ℕ) (x y z : List ℕ) (a b k : ℕ) → Give limit x y z a b k
-    → measured m at limit (whole_of x) (whole_of y) (whole_of z) ≡ on_map m at (Some a) (Some b) (Some k)
-give_judged m at limit x y z a b k g =
-    let x_form = form_given 8388608 x a g.x_is in
-    let y_form = form_given 8388608 y b g.y_is in
-    have_forms m at limit x y z x_form y_form (form_given limit z k g.z_is)
-    ∙ rw (in_range_given 8388608 x a g.x_is, in_range_given 8388608 y b g.y_is, in_range_given limit z k g.z_is) refl
+give_judged : (states : ℕ) (m : CellMap) (at limit : ℕ) (x y z : List ℕ) (a b k : ℕ) → Give states limit x y z a b k
+    → measured states m at limit (whole_of x) (whole_of y) (whole_of z) ≡ on_map m at (Some a) (Some b) (Some k)
+give_judged states m at limit x y z a b k g =
+    let x_form = form_given states x a g.x_is in
+    let y_form = form_given states y b g.y_is in
+    have_forms states m at limit x y z x_form y_form (form_given limit z k g.z_is)
+    ∙ rw (in_range_given states x a g.x_is, in_range_given states y b g.y_is, in_range_given limit z k g.z_is) refl
 
 on_map_judged : (m : CellMap) (at a b k : ℕ) → IsCellOnMap m a b → on_map m at (Some a) (Some b) (Some k) ≡ Ok (a, b, k)
 on_map_judged m at a b k on =
     rw (and_from (nat_lt a m.width) (nat_lt b m.height) (lt-ltb a m.width on.x) (lt-ltb b m.height on.y)) refl
 
-off_map_judged : (m : CellMap) (at limit : ℕ) (x y z : List ℕ) → AreOffMap m limit x y z
-    → measured m at limit (whole_of x) (whole_of y) (whole_of z) ≡ Err (OffMap at)
-off_map_judged m at limit x y z h =
+off_map_judged : (states : ℕ) (m : CellMap) (at limit : ℕ) (x y z : List ℕ) → AreOffMap states m limit x y z
+    → measured states m at limit (whole_of x) (whole_of y) (whole_of z) ≡ Err (OffMap at)
+off_map_judged states m at limit x y z h =
     let a = h.0 in
     let b = h.1 in
     let off = false_from_ne_true (nat_lt a m.width && nat_lt b m.height) (λ e. h.4 (cell_of_tests m a b e)) in
-    give_judged m at limit x y z a b h.2 h.3 ∙ rw off refl
+    give_judged states m at limit x y z a b h.2 h.3 ∙ rw off refl
 
-cell_judged : (m : CellMap) (headings : Option ℕ) (at : ℕ) (line : List (List ℕ)) (x y z : List ℕ)
+cell_judged : (states : ℕ) (m : CellMap) (headings : Option ℕ) (at : ℕ) (line : List (List ℕ)) (x y z : List ℕ)
     (r : Result Three ChangeFault) → line ≡ cell_line x y z
-    → measured m at 256 (whole_of x) (whole_of y) (whole_of z) ≡ r → judged m headings at line ≡ cell_said r
+    → measured states m at 256 (whole_of x) (whole_of y) (whole_of z) ≡ r → judged states m headings at line ≡ cell_said r
 unfolding judged
-cell_judged m headings at line x y z r e h = rw e (ap cell_said h)
+cell_judged states m headings at line x y z r e h = rw e (ap cell_said h)
 
-start_judged : (m : CellMap) (headings : Option ℕ) (at limit : ℕ) (line : List (List ℕ)) (x y z : List ℕ)
+start_judged : (states : ℕ) (m : CellMap) (headings : Option ℕ) (at limit : ℕ) (line : List (List ℕ)) (x y z : List ℕ)
     (r : Result Three ChangeFault) → line ≡ start_line x y z → headings ≡ Some limit
-    → measured m at limit (whole_of x) (whole_of y) (whole_of z) ≡ r → judged m headings at line ≡ start_said r
+    → measured states m at limit (whole_of x) (whole_of y) (whole_of z) ≡ r → judged states m headings at line ≡ start_said r
 unfolding judged
-start_judged m headings at limit line x y z r e s h = rw (e, s) (ap start_said h)
+start_judged states m headings at limit line x y z r e s h = rw (e, s) (ap start_said h)
 
 -- the fault of the three fields is that of their line
-three_judged : (m : CellMap) (headings : Option ℕ) (at limit : ℕ) (line : List (List ℕ)) (x y z : List ℕ)
+three_judged : (states : ℕ) (m : CellMap) (headings : Option ℕ) (at limit : ℕ) (line : List (List ℕ)) (x y z : List ℕ)
     (f : ChangeFault) → HasThree headings line limit x y z
-    → measured m at limit (whole_of x) (whole_of y) (whole_of z) ≡ Err f → judged m headings at line ≡ Err f
-three_judged m headings at limit line x y z f t h = elim t [
-  | inl p ↦ let here = rw p.1 at h in cell_judged m headings at line x y z (Err f) p.0 here
-  | inr p ↦ start_judged m headings at limit line x y z (Err f) p.0 p.1 h
+    → measured states m at limit (whole_of x) (whole_of y) (whole_of z) ≡ Err f → judged states m headings at line ≡ Err f
+three_judged states m headings at limit line x y z f t h = elim t [
+  | inl p ↦ let here = rw p.1 at h in cell_judged states m headings at line x y z (Err f) p.0 here
+  | inr p ↦ start_judged states m headings at limit line x y z (Err f) p.0 p.1 h
 ]
 
-few_or_many : (m : CellMap) (at limit : ℕ) (more : List (List ℕ)) → HasNotThree more
-    → numbers m at limit (three more) ≡ Err (Word at)
-few_or_many m at limit [] n = refl
-few_or_many m at limit (x ∷ []) n = refl
-few_or_many m at limit (x ∷ y ∷ []) n = refl
-few_or_many m at limit (x ∷ y ∷ z ∷ []) n = absurd (n x y z refl)
-few_or_many m at limit (x ∷ y ∷ z ∷ d ∷ more) n = refl
+few_or_many : (states : ℕ) (m : CellMap) (at limit : ℕ) (more : List (List ℕ)) → HasNotThree more
+    → numbers states m at limit (three more) ≡ Err (Word at)
+few_or_many states m at limit [] n = refl
+few_or_many states m at limit (x ∷ []) n = refl
+few_or_many states m at limit (x ∷ y ∷ []) n = refl
+few_or_many states m at limit (x ∷ y ∷ z ∷ []) n = absurd (n x y z refl)
+few_or_many states m at limit (x ∷ y ∷ z ∷ d ∷ more) n = refl
 
-not_started : (m : CellMap) (headings : Option ℕ) (at : ℕ) (word : List ℕ) (more : List (List ℕ))
-    → word ≡ codes "start" → IsOther headings (word ∷ more) → started m headings at more ≡ Err (Word at)
-not_started m None at word more e o = refl
-not_started m (Some n) at word more e o =
-    ap start_said (few_or_many m at n more (λ x y z h. o.no_three n x y z (inr (cc, refl))))
+not_started : (states : ℕ) (m : CellMap) (headings : Option ℕ) (at : ℕ) (word : List ℕ) (more : List (List ℕ))
+    → word ≡ codes "start" → IsOther headings (word ∷ more) → started states m headings at more ≡ Err (Word at)
+not_started states m None at word more e o = refl
+not_started states m (Some n) at word more e o =
+    ap start_said (few_or_many states m at n more (λ x y z h. o.no_three n x y z (inr (cc, refl))))
 
 not_alone : (headings : Option ℕ) (at : ℕ) (word : List ℕ) (more : List (List ℕ)) → word ≡ codes "replan"
     → IsOther headings (word ∷ more) → ended at more ≡ Err (Word at)
 not_alone headings at word [] e o = absurd (o.no_replan (ap (λ w. w ∷ []) e))
 not_alone headings at word (x ∷ more) e o = refl
 
-other_judged : (m : CellMap) (headings : Option ℕ) (at : ℕ) (line : List (List ℕ)) → IsOther headings line
-    → judged m headings at line ≡ Err (Word at)
+other_judged : (states : ℕ) (m : CellMap) (headings : Option ℕ) (at : ℕ) (line : List (List ℕ)) → IsOther headings line
+    → judged states m headings at line ≡ Err (Word at)
 unfolding judged
-other_judged m headings at [] o = absurd (o.some refl)
-other_judged m headings at (word ∷ more) o =
+other_judged states m headings at [] o = absurd (o.some refl)
+other_judged states m headings at (word ∷ more) o =
     let is_cell = bytes_eq-Decides word (codes "cell") in
     let is_start = bytes_eq-Decides word (codes "start") in
     let is_replan = bytes_eq-Decides word (codes "replan") in
     elim (cases_Bool (bytes_eq word (codes "cell"))) [
       | inl e ↦ let word_is = is_cell.0 e in
-          rw e (ap cell_said (few_or_many m at 256 more (λ x y z h. o.no_three 256 x y z (inl (cc, refl)))))
+          rw e (ap cell_said (few_or_many states m at 256 more (λ x y z h. o.no_three 256 x y z (inl (cc, refl)))))
       | inr e ↦ elim (cases_Bool (bytes_eq word (codes "start"))) [
-        | inl d ↦ rw (e, d) (not_started m headings at word more (is_start.0 d) o)
+        | inl d ↦ rw (e, d) (not_started states m headings at word more (is_start.0 d) o)
         | inr d ↦ elim (cases_Bool (bytes_eq word (codes "replan"))) [
           | inl k ↦ rw (e, d, k) (not_alone headings at word more (is_replan.0 k) o)
           | inr k ↦ rw (e, d, k) refl
@@ -414,47 +414,47 @@ other_judged m headings at (word ∷ more) o =
     ]
 
 -- What is true of a line is what is judged of it.
-pub judged_is : (m : CellMap) (headings : Option ℕ) (at : ℕ) (line : List (List ℕ)) (r : Result Said ChangeFault)
-    → Verdict m headings at line r → judged m headings at line ≡ r
+pub judged_is : (states : ℕ) (m : CellMap) (headings : Option ℕ) (at : ℕ) (line : List (List ℕ)) (r : Result Said ChangeFault)
+    → Verdict states m headings at line r → judged states m headings at line ≡ r
 unfolding judged
-judged_is m headings at line (Ok Nothing) h = rw h refl
-judged_is m headings at line (Ok (Cell w)) h =
-    let is = give_judged m at 256 h.0 h.1 h.2 w.x w.y w.cost h.4 ∙ on_map_judged m at w.x w.y w.cost h.5 in
-    cell_judged m headings at line h.0 h.1 h.2 (Ok (w.x, w.y, w.cost)) h.3 is
-judged_is m headings at line (Ok (Start p)) h =
+judged_is states m headings at line (Ok Nothing) h = rw h refl
+judged_is states m headings at line (Ok (Cell w)) h =
+    let is = give_judged states m at 256 h.0 h.1 h.2 w.x w.y w.cost h.4 ∙ on_map_judged m at w.x w.y w.cost h.5 in
+    cell_judged states m headings at line h.0 h.1 h.2 (Ok (w.x, w.y, w.cost)) h.3 is
+judged_is states m headings at line (Ok (Start p)) h =
     let g = h.4 in
-    let is = give_judged m at g.0 h.0 h.1 h.2 p.x p.y p.t g.2 ∙ on_map_judged m at p.x p.y p.t h.5 in
-    start_judged m headings at g.0 line h.0 h.1 h.2 (Ok (p.x, p.y, p.t)) h.3 g.1 is
-judged_is m headings at line (Ok Replan) h = rw h refl
-judged_is m headings at line (Err (Word n)) h = rw h.0 (other_judged m headings at line h.1)
-judged_is m headings at line (Err (Number n)) h =
+    let is = give_judged states m at g.0 h.0 h.1 h.2 p.x p.y p.t g.2 ∙ on_map_judged m at p.x p.y p.t h.5 in
+    start_judged states m headings at g.0 line h.0 h.1 h.2 (Ok (p.x, p.y, p.t)) h.3 g.1 is
+judged_is states m headings at line (Ok Replan) h = rw h refl
+judged_is states m headings at line (Err (Word n)) h = rw h.0 (other_judged states m headings at line h.1)
+judged_is states m headings at line (Err (Number n)) h =
     let t = h.1 in
-    let is = no_number_judged m at t.0 t.1 t.2 t.3 t.5 in
-    rw h.0 (three_judged m headings at t.0 line t.1 t.2 t.3 (Number at) t.4 is)
-judged_is m headings at line (Err (Range n)) h =
+    let is = no_number_judged states m at t.0 t.1 t.2 t.3 t.5 in
+    rw h.0 (three_judged states m headings at t.0 line t.1 t.2 t.3 (Number at) t.4 is)
+judged_is states m headings at line (Err (Range n)) h =
     let t = h.1 in
-    let is = range_judged m at t.0 t.1 t.2 t.3 t.5 in
-    rw h.0 (three_judged m headings at t.0 line t.1 t.2 t.3 (Range at) t.4 is)
-judged_is m headings at line (Err (OffMap n)) h =
+    let is = range_judged states m at t.0 t.1 t.2 t.3 t.5 in
+    rw h.0 (three_judged states m headings at t.0 line t.1 t.2 t.3 (Range at) t.4 is)
+judged_is states m headings at line (Err (OffMap n)) h =
     let t = h.1 in
-    let is = off_map_judged m at t.0 t.1 t.2 t.3 t.5 in
-    rw h.0 (three_judged m headings at t.0 line t.1 t.2 t.3 (OffMap at) t.4 is)
-judged_is m headings at line (Err (NoReplan n)) h = absurd h
-judged_is m headings at line (Err NoMemory) h = absurd h
+    let is = off_map_judged states m at t.0 t.1 t.2 t.3 t.5 in
+    rw h.0 (three_judged states m headings at t.0 line t.1 t.2 t.3 (OffMap at) t.4 is)
+judged_is states m headings at line (Err (NoReplan n)) h = absurd h
+judged_is states m headings at line (Err NoMemory) h = absurd h
 
 -- ---- a line that is no start's
 
-same_by_word : (m : CellMap) (headings : Option ℕ) (at : ℕ) (word : List ℕ) (more : List (List ℕ))
-    → word ≢ codes "start" → judged m headings at (word ∷ more) ≡ judged m None at (word ∷ more)
+same_by_word : (states : ℕ) (m : CellMap) (headings : Option ℕ) (at : ℕ) (word : List ℕ) (more : List (List ℕ))
+    → word ≢ codes "start" → judged states m headings at (word ∷ more) ≡ judged states m None at (word ∷ more)
 unfolding judged
-same_by_word m headings at word more n =
+same_by_word states m headings at word more n =
     let is_start = bytes_eq-Decides word (codes "start") in
     let other = false_from_ne_true (bytes_eq word (codes "start")) (λ e. n (is_start.0 e)) in
     rw other refl
 
 -- is judged alike whether or not a start's could be
-pub judged_alike : (m : CellMap) (headings : Option ℕ) (at : ℕ) (line : List (List ℕ)) → IsNoStart line
-    → judged m headings at line ≡ judged m None at line
+pub judged_alike : (states : ℕ) (m : CellMap) (headings : Option ℕ) (at : ℕ) (line : List (List ℕ)) → IsNoStart line
+    → judged states m headings at line ≡ judged states m None at line
 unfolding judged
-judged_alike m headings at [] n = refl
-judged_alike m headings at (word ∷ more) n = same_by_word m headings at word more n
+judged_alike states m headings at [] n = refl
+judged_alike states m headings at (word ∷ more) n = same_by_word states m headings at word more n

@@ -4,6 +4,7 @@ use Rattle.std.proofs.Common.{refl, ap, ◌∙◌, inl, inr, arith, map, None, a
 use Rattle.std.specs.Prelude.{decimal, ◌==◌, slice_index}
 use Rattle.std.specs.List.{flat_map, AllByRecursion, list_all, slice_split, onto_first, filter}
 use Rattle.std.specs.Str.Lines.{lines, lines_of_parts, strip_carriage_return}
+use Rattle.std.proofs.Math.Nat.{le_trans}
 use Rattle.std.proofs.lemmas.Bool.{cases_Bool, eqb-true, and_parts}
 use Rattle.sbpl_cfg.specs.sbpl_fixed.Printed.{line_text, lines_text}
 use Rattle.sbpl_cfg.specs.sbpl_fixed.Tokens.{is_filled}
@@ -142,28 +143,29 @@ lines_are_told (l ∷ ls) h =
 
 -- ---- writes
 
-number_is_word : (n : ℕ) → n ≤ 8388608 → IsWord (decimal n)
+number_is_word : (n : ℕ) → n ≤ 268435456 → IsWord (decimal n)
 number_is_word n h = wholes_are_words (pos n) (omega arith)
 
-gives : (limit n : ℕ) → limit ≤ 8388608 → n < limit → IsNumberBelow limit (decimal n) n
+gives : (limit n : ℕ) → limit ≤ 268435456 → n < limit → IsNumberBelow limit (decimal n) n
 gives limit n k h = (wholes_are_read_back (pos n) (omega arith), h)
 
-write_says : (m : CellMap) (w : Write) → m.width ≤ 8388608 → m.height ≤ 8388608 → IsWriteOnMap m w → w.cost ≤ 255
-    → LineTells m None (write_line w) (Cell w)
-write_says m w width height on cost = (
+write_says : (states : ℕ) (m : CellMap) (w : Write) → states ≤ 268435456 → m.width ≤ states → m.height ≤ states
+    → IsWriteOnMap m w → w.cost ≤ 255
+    → LineTells states m None (write_line w) (Cell w)
+write_says states m w small width height on cost = (
   decimal w.x,
   decimal w.y,
   decimal w.cost,
   refl,
   record {
-    x_is = gives 8388608 w.x (omega arith) (omega (arith, on.x));
-    y_is = gives 8388608 w.y (omega arith) (omega (arith, on.y));
+    x_is = gives states w.x small (omega (arith, on.x, width));
+    y_is = gives states w.y small (omega (arith, on.y, height));
     z_is = gives 256 w.cost (omega arith) (omega arith);
   },
   on,
 )
 
-write_is_line : (m : CellMap) (w : Write) → m.width ≤ 8388608 → m.height ≤ 8388608 → IsWriteOnMap m w
+write_is_line : (m : CellMap) (w : Write) → m.width ≤ 268435456 → m.height ≤ 268435456 → IsWriteOnMap m w
     → w.cost ≤ 255 → IsLine (write_line w)
 write_is_line m w width height on cost = (
   refl,
@@ -179,31 +181,32 @@ write_is_line m w width height on cost = (
 abbrev AreCosts : List Write → Type 0
 AreCosts batch = AllByRecursion (λ w. w.cost ≤ 255) batch
 
-batch_says : (m : CellMap) (batch : List Write) (ls : List (List (List ℕ))) (more : List Said)
-    → m.width ≤ 8388608 → m.height ≤ 8388608
-    → AllByRecursion (λ w. IsWriteOnMap m w) batch → AreCosts batch → LinesSay m ls more
-    → LinesSay m (batch_lines batch ++ ls) (spelled_batch (map (λ w. inl w) batch) ++ more)
-batch_says m [] ls more width height on costs h = (refl, h)
-batch_says m (w ∷ ws) ls more width height on costs h =
-    (write_says m w width height on.0 costs.0, batch_says m ws ls more width height on.1 costs.1 h)
+batch_says : (states : ℕ) (m : CellMap) (batch : List Write) (ls : List (List (List ℕ))) (more : List Said)
+    → states ≤ 268435456 → m.width ≤ states → m.height ≤ states
+    → AllByRecursion (λ w. IsWriteOnMap m w) batch → AreCosts batch → LinesSay states m ls more
+    → LinesSay states m (batch_lines batch ++ ls) (spelled_batch (map (λ w. inl w) batch) ++ more)
+batch_says states m [] ls more small width height on costs h = (refl, h)
+batch_says states m (w ∷ ws) ls more small width height on costs h =
+    (write_says states m w small width height on.0 costs.0, batch_says states m ws ls more small width height on.1 costs.1 h)
 
 batch_are_lines : (m : CellMap) (batch : List Write) (ls : List (List (List ℕ)))
-    → m.width ≤ 8388608 → m.height ≤ 8388608
+    → m.width ≤ 268435456 → m.height ≤ 268435456
     → AllByRecursion (λ w. IsWriteOnMap m w) batch → AreCosts batch → AllByRecursion IsLine ls
     → AllByRecursion IsLine (batch_lines batch ++ ls)
 batch_are_lines m [] ls width height on costs h = ((refl, (record { some = omega arith; filled = refl }, tt)), h)
 batch_are_lines m (w ∷ ws) ls width height on costs h =
     (write_is_line m w width height on.0 costs.0, batch_are_lines m ws ls width height on.1 costs.1 h)
 
-all_say : (m : CellMap) (batches : List (List Write)) → m.width ≤ 8388608 → m.height ≤ 8388608 → AreOnMap m batches
+all_say : (states : ℕ) (m : CellMap) (batches : List (List Write)) → states ≤ 268435456 → m.width ≤ states
+    → m.height ≤ states → AreOnMap m batches
     → AllByRecursion AreCosts batches
-    → LinesSay m (flat_map batch_lines batches) (spelled batches)
-all_say m [] width height on costs = tt
-all_say m (b ∷ bs) width height on costs =
-    batch_says m b (flat_map batch_lines bs) (spelled bs) width height on.0 costs.0
-    (all_say m bs width height on.1 costs.1)
+    → LinesSay states m (flat_map batch_lines batches) (spelled batches)
+all_say states m [] small width height on costs = tt
+all_say states m (b ∷ bs) small width height on costs =
+    batch_says states m b (flat_map batch_lines bs) (spelled bs) small width height on.0 costs.0
+    (all_say states m bs small width height on.1 costs.1)
 
-all_are_lines : (m : CellMap) (batches : List (List Write)) → m.width ≤ 8388608 → m.height ≤ 8388608
+all_are_lines : (m : CellMap) (batches : List (List Write)) → m.width ≤ 268435456 → m.height ≤ 268435456
     → AreOnMap m batches → AllByRecursion AreCosts batches
     → AllByRecursion IsLine (flat_map batch_lines batches)
 all_are_lines m [] width height on costs = tt
@@ -211,8 +214,10 @@ all_are_lines m (b ∷ bs) width height on costs =
     batch_are_lines m b (flat_map batch_lines bs) width height on.0 costs.0
     (all_are_lines m bs width height on.1 costs.1)
 
-pub changes_are_printed : (m : CellMap) (batches : List (List Write)) → AreChangesOf m batches
-    → IsTextOf m (changes_text batches) batches
-changes_are_printed m batches h =
-    rw (lines_are_told (flat_map batch_lines batches) (all_are_lines m batches h.width h.height h.on_map h.costs))
-    (all_say m batches h.width h.height h.on_map h.costs)
+pub changes_are_printed : (states : ℕ) (m : CellMap) (batches : List (List Write)) → states ≤ 268435456
+    → AreChangesOf states m batches → IsTextOf states m (changes_text batches) batches
+changes_are_printed states m batches small h =
+    let width = le_trans h.width small in
+    let height = le_trans h.height small in
+    rw (lines_are_told (flat_map batch_lines batches) (all_are_lines m batches width height h.on_map h.costs))
+    (all_say states m batches small h.width h.height h.on_map h.costs)

@@ -27,16 +27,16 @@ IsGivenOn m headings (inr p) = (limit : ℕ) × (headings ≡ Some limit) × IsC
 abbrev AreGivenOn : CellMap → Option ℕ → List (List Given) → Type 0
 AreGivenOn m headings told = AllByRecursion (λ batch. AllByRecursion (λ g. IsGivenOn m headings g) batch) told
 
-given_on : (m : CellMap) (headings : Option ℕ) (told_lines : List (List (List ℕ))) (told : List (List Given))
-    → LinesTell m headings told_lines (flat_map spelled_batch told) → AreGivenOn m headings told
-given_on m headings told_lines [] h = tt
-given_on m headings [] ([] ∷ others) h = absurd h
-given_on m headings [] ((g ∷ gs) ∷ others) h = absurd h
-given_on m headings (l ∷ ls) ([] ∷ others) h = (tt, given_on m headings ls others h.1)
-given_on m headings (l ∷ ls) ((inl w ∷ gs) ∷ others) h =
-    let rest = given_on m headings ls (gs ∷ others) h.1 in ((h.0.5, rest.0), rest.1)
-given_on m headings (l ∷ ls) ((inr p ∷ gs) ∷ others) h =
-    let rest = given_on m headings ls (gs ∷ others) h.1 in
+given_on : (states : ℕ) (m : CellMap) (headings : Option ℕ) (told_lines : List (List (List ℕ))) (told : List (List Given))
+    → LinesTell states m headings told_lines (flat_map spelled_batch told) → AreGivenOn m headings told
+given_on states m headings told_lines [] h = tt
+given_on states m headings [] ([] ∷ others) h = absurd h
+given_on states m headings [] ((g ∷ gs) ∷ others) h = absurd h
+given_on states m headings (l ∷ ls) ([] ∷ others) h = (tt, given_on states m headings ls others h.1)
+given_on states m headings (l ∷ ls) ((inl w ∷ gs) ∷ others) h =
+    let rest = given_on states m headings ls (gs ∷ others) h.1 in ((h.0.5, rest.0), rest.1)
+given_on states m headings (l ∷ ls) ((inr p ∷ gs) ∷ others) h =
+    let rest = given_on states m headings ls (gs ∷ others) h.1 in
     let g = h.0.4 in
     (((g.0, g.1, h.0.5, g.2.z_is.1), rest.0), rest.1)
 
@@ -98,9 +98,9 @@ all_alone m (b ∷ bs) h =
     ap (λ c. c ∷ bs) (write_alone m b h.0) ∙ ap (λ l. map (λ w. inl w) (writes_of b) ∷ l) (all_alone m bs h.1)
 
 -- where there are no starts, only writes are given
-pub alone_is : (m : CellMap) (text : List ℕ) (told : List (List Given)) → StandsFor m None text told
+pub alone_is : (states : ℕ) (m : CellMap) (text : List ℕ) (told : List (List Given)) → StandsFor states m None text told
     → told ≡ writes_alone (map writes_of told)
-alone_is m text told h = all_alone m told (given_on m None (lines_with_fields (lines text)) told h)
+alone_is states m text told h = all_alone m told (given_on states m None (lines_with_fields (lines text)) told h)
 
 -- ---- what a reader of the whole text answers
 
@@ -125,60 +125,64 @@ either_of P F (Err f) t n = inr (f, n f t, t)
 
 -- ---- texts of writes alone
 
-abbrev pub changes_of : CellMap → List ℕ → Result (List (List Write)) ChangeFault
-changes_of m text = alone (parted (told_by m None text))
+abbrev pub changes_of : (states : ℕ) → CellMap → List ℕ → Result (List (List Write)) ChangeFault
+changes_of states m text = alone (parted (told_by states m None text))
 
-pub changes_given : (m : CellMap) (text : List ℕ) (batches : List (List Write)) → IsTextOf m text batches
-    → changes_of m text ≡ Ok batches
-changes_given m text batches h =
-    ap (λ r. alone (parted r)) (text_gives m None text (writes_alone batches) h)
+pub changes_given : (states : ℕ) (m : CellMap) (text : List ℕ) (batches : List (List Write)) → IsTextOf states m text batches
+    → changes_of states m text ≡ Ok batches
+changes_given states m text batches h =
+    ap (λ r. alone (parted r)) (text_gives states m None text (writes_alone batches) h)
     ∙ ap (λ l. Ok l) (all_writes_back batches)
 
-pub fault_given : (m : CellMap) (text : List ℕ) (f : ChangeFault) → HasFault m text f → changes_of m text ≡ Err f
-fault_given m text f h = ap (λ r. alone (parted r)) (fault_gives m None text f h)
+pub fault_given : (states : ℕ) (m : CellMap) (text : List ℕ) (f : ChangeFault) → HasFault states m text f
+    → changes_of states m text ≡ Err f
+fault_given states m text f h = ap (λ r. alone (parted r)) (fault_gives states m None text f h)
 
-changes_told : (m : CellMap) (text : List ℕ) (r : Result (List (List Given)) ChangeFault) → Gave m None text r
-    → Tells (λ c. IsTextOf m text c) (λ f. HasFault m text f) (alone (parted r))
-changes_told m text (Ok told) g = subst (λ l. StandsFor m None text l) (alone_is m text told g) g
-changes_told m text (Err f) g = g
+changes_told : (states : ℕ) (m : CellMap) (text : List ℕ) (r : Result (List (List Given)) ChangeFault) → Gave states m None text r
+    → Tells (λ c. IsTextOf states m text c) (λ f. HasFault states m text f) (alone (parted r))
+changes_told states m text (Ok told) g = subst (λ l. StandsFor states m None text l) (alone_is states m text told g) g
+changes_told states m text (Err f) g = g
 
-changes_are : (m : CellMap) (text : List ℕ)
-    → Tells (λ c. IsTextOf m text c) (λ f. HasFault m text f) (changes_of m text)
-changes_are m text = changes_told m text (told_by m None text) (gave_of m None text)
+changes_are : (states : ℕ) (m : CellMap) (text : List ℕ)
+    → Tells (λ c. IsTextOf states m text c) (λ f. HasFault states m text f) (changes_of states m text)
+changes_are states m text = changes_told states m text (told_by states m None text) (gave_of states m None text)
 
-pub changes_or_fault : (m : CellMap) (text : List ℕ) → IsText m text ⊎ IsFaulty m text
-changes_or_fault m text =
-    let memory = not_memory m None text in
-    either_of (λ c. IsTextOf m text c) (λ f. HasFault m text f) (changes_of m text) (changes_are m text) memory
+pub changes_or_fault : (states : ℕ) (m : CellMap) (text : List ℕ) → IsText states m text ⊎ IsFaulty states m text
+changes_or_fault states m text =
+    let memory = not_memory states m None text in
+    either_of (λ c. IsTextOf states m text c) (λ f. HasFault states m text f) (changes_of states m text)
+    (changes_are states m text) memory
 
 alone_answers : (r read : Result (List (List Write) × List (Option Place)) ChangeFault)
     → Answers NoMemory (λ x. x) r read → Answers NoMemory (λ c. c) (alone r) (alone read)
 alone_answers (Ok x) read h = ap alone h
 alone_answers (Err f) read h = λ n. ap alone (h n)
 
-pub alone_given : (m : CellMap) (text : List ℕ) (r : Result (List (List Write) × List (Option Place)) ChangeFault)
+pub alone_given : (states : ℕ) (m : CellMap) (text : List ℕ) (r : Result (List (List Write) × List (Option Place)) ChangeFault)
     (s : Result (List (List Write)) ChangeFault)
-    → s ≡ alone r → Answers NoMemory (λ x. x) r (parted (told_by m None text))
-    → Answers NoMemory (λ c. c) s (changes_of m text)
-alone_given m text r s e h = rw e (alone_answers r (parted (told_by m None text)) h)
+    → s ≡ alone r → Answers NoMemory (λ x. x) r (parted (told_by states m None text))
+    → Answers NoMemory (λ c. c) s (changes_of states m text)
+alone_given states m text r s e h = rw e (alone_answers r (parted (told_by states m None text)) h)
 
-pub changes_found : (m : CellMap) (text : List ℕ) (r : Result (List (List Write)) ChangeFault)
-    → Answers NoMemory (λ c. c) r (changes_of m text) → IfOk r (λ c. IsTextOf m text c)
-changes_found m text r h =
-    found_of (λ c. IsTextOf m text c) (λ f. HasFault m text f) r (changes_of m text) (changes_are m text) h
+pub changes_found : (states : ℕ) (m : CellMap) (text : List ℕ) (r : Result (List (List Write)) ChangeFault)
+    → Answers NoMemory (λ c. c) r (changes_of states m text) → IfOk r (λ c. IsTextOf states m text c)
+changes_found states m text r h =
+    found_of (λ c. IsTextOf states m text c) (λ f. HasFault states m text f) r (changes_of states m text)
+    (changes_are states m text) h
 
-pub changes_faulty : (m : CellMap) (text : List ℕ) (r : Result (List (List Write)) ChangeFault)
-    → Answers NoMemory (λ c. c) r (changes_of m text) → IfErr r (λ f. f ≢ NoMemory → HasFault m text f)
-changes_faulty m text r h =
-    faulty_of (λ c. IsTextOf m text c) (λ f. HasFault m text f) r (changes_of m text) (changes_are m text) h
+pub changes_faulty : (states : ℕ) (m : CellMap) (text : List ℕ) (r : Result (List (List Write)) ChangeFault)
+    → Answers NoMemory (λ c. c) r (changes_of states m text) → IfErr r (λ f. f ≢ NoMemory → HasFault states m text f)
+changes_faulty states m text r h =
+    faulty_of (λ c. IsTextOf states m text c) (λ f. HasFault states m text f) r (changes_of states m text)
+    (changes_are states m text) h
 
-pub changes_on : (m : CellMap) (text : List ℕ) (r : Result (List (List Write)) ChangeFault)
-    → IfOk r (λ c. IsTextOf m text c) → IfOk r (λ c. AreOnMap m c)
-changes_on m text (Ok c) h =
-    let given = given_on m None (lines_with_fields (lines text)) (writes_alone c) h in
+pub changes_on : (states : ℕ) (m : CellMap) (text : List ℕ) (r : Result (List (List Write)) ChangeFault)
+    → IfOk r (λ c. IsTextOf states m text c) → IfOk r (λ c. AreOnMap m c)
+changes_on states m text (Ok c) h =
+    let given = given_on states m None (lines_with_fields (lines text)) (writes_alone c) h in
     let on = all_writes_on m None (writes_alone c) given in
     subst (λ l. AreOnMap m l) (all_writes_back c) on
-changes_on m text (Err f) h = tt
+changes_on states m text (Err f) h = tt
 
 -- ---- texts of writes and moves
 
@@ -186,125 +190,131 @@ changes_on m text (Err f) h = tt
 abbrev pub Updates : Type 0
 Updates = List (List Write) × List (Option Place)
 
-abbrev pub moves_of : CellMap → ℕ → List ℕ → Result Updates ChangeFault
-moves_of m headings text = parted (told_by m (Some headings) text)
+abbrev pub moves_of : (states : ℕ) → CellMap → ℕ → List ℕ → Result Updates ChangeFault
+moves_of states m headings text = parted (told_by states m (Some headings) text)
 
-pub moves_given : (m : CellMap) (headings : ℕ) (text : List ℕ) (batches : List (List Write))
-    (moves : List (Option Place)) → IsMovesTextOf m headings text batches moves
-    → moves_of m headings text ≡ Ok (batches, moves)
-moves_given m headings text batches moves h = ap parted (text_gives m (Some headings) text h.0 h.1) ∙ rw (h.2, h.3) refl
+pub moves_given : (states : ℕ) (m : CellMap) (headings : ℕ) (text : List ℕ) (batches : List (List Write))
+    (moves : List (Option Place)) → IsMovesTextOf states m headings text batches moves
+    → moves_of states m headings text ≡ Ok (batches, moves)
+moves_given states m headings text batches moves h =
+    ap parted (text_gives states m (Some headings) text h.0 h.1) ∙ rw (h.2, h.3) refl
 
-pub moves_fault_given : (m : CellMap) (headings : ℕ) (text : List ℕ) (f : ChangeFault)
-    → HasMovesFault m headings text f → moves_of m headings text ≡ Err f
-moves_fault_given m headings text f h = ap parted (fault_gives m (Some headings) text f h)
+pub moves_fault_given : (states : ℕ) (m : CellMap) (headings : ℕ) (text : List ℕ) (f : ChangeFault)
+    → HasMovesFault states m headings text f → moves_of states m headings text ≡ Err f
+moves_fault_given states m headings text f h = ap parted (fault_gives states m (Some headings) text f h)
 
 pub same_updates : (r : Result Updates ChangeFault) (x y : Updates) → r ≡ Ok x → r ≡ Ok y → x ≡ y
 same_updates r x y e f = let both : Ok x ≡ Ok y = sym e ∙ f in cc
 
-abbrev AreUpdates : CellMap → ℕ → List ℕ → Updates → Type 0
-AreUpdates m headings text x = IsMovesTextOf m headings text x.0 x.1
+abbrev AreUpdates : (states : ℕ) → CellMap → ℕ → List ℕ → Updates → Type 0
+AreUpdates states m headings text x = IsMovesTextOf states m headings text x.0 x.1
 
-moves_told : (m : CellMap) (headings : ℕ) (text : List ℕ) (r : Result (List (List Given)) ChangeFault)
-    → Gave m (Some headings) text r
-    → Tells (AreUpdates m headings text) (λ f. HasMovesFault m headings text f) (parted r)
-moves_told m headings text (Ok told) g = (told, g, refl, refl)
-moves_told m headings text (Err f) g = g
+moves_told : (states : ℕ) (m : CellMap) (headings : ℕ) (text : List ℕ) (r : Result (List (List Given)) ChangeFault)
+    → Gave states m (Some headings) text r
+    → Tells (AreUpdates states m headings text) (λ f. HasMovesFault states m headings text f) (parted r)
+moves_told states m headings text (Ok told) g = (told, g, refl, refl)
+moves_told states m headings text (Err f) g = g
 
-moves_are : (m : CellMap) (headings : ℕ) (text : List ℕ)
-    → Tells (AreUpdates m headings text) (λ f. HasMovesFault m headings text f) (moves_of m headings text)
-moves_are m headings text = moves_told m headings text (told_by m (Some headings) text) (gave_of m (Some headings) text)
+moves_are : (states : ℕ) (m : CellMap) (headings : ℕ) (text : List ℕ)
+    → Tells (AreUpdates states m headings text) (λ f. HasMovesFault states m headings text f) (moves_of states m headings text)
+moves_are states m headings text =
+    moves_told states m headings text (told_by states m (Some headings) text) (gave_of states m (Some headings) text)
 
-pub moves_or_fault : (m : CellMap) (headings : ℕ) (text : List ℕ)
-    → IsMovesText m headings text ⊎ IsMovesFaulty m headings text
-moves_or_fault m headings text =
-    let are = moves_are m headings text in
-    let memory = not_memory m (Some headings) text in
-    let fault = λ (f : ChangeFault). HasMovesFault m headings text f in
-    elim (either_of (AreUpdates m headings text) fault (moves_of m headings text) are memory) [
+pub moves_or_fault : (states : ℕ) (m : CellMap) (headings : ℕ) (text : List ℕ)
+    → IsMovesText states m headings text ⊎ IsMovesFaulty states m headings text
+moves_or_fault states m headings text =
+    let are = moves_are states m headings text in
+    let memory = not_memory states m (Some headings) text in
+    let fault = λ (f : ChangeFault). HasMovesFault states m headings text f in
+    elim (either_of (AreUpdates states m headings text) fault (moves_of states m headings text) are memory) [
       | inl v ↦ inl (v.0.0, v.0.1, v.1)
       | inr f ↦ inr f
     ]
 
-pub moves_found : (m : CellMap) (headings : ℕ) (text : List ℕ) (r : Result Updates ChangeFault)
-    → Answers NoMemory (λ x. x) r (moves_of m headings text) → IfOk r (λ x. IsMovesTextOf m headings text x.0 x.1)
-moves_found m headings text r h =
-    let are = moves_are m headings text in
-    found_of (AreUpdates m headings text) (λ f. HasMovesFault m headings text f) r (moves_of m headings text) are h
+pub moves_found : (states : ℕ) (m : CellMap) (headings : ℕ) (text : List ℕ) (r : Result Updates ChangeFault)
+    → Answers NoMemory (λ x. x) r (moves_of states m headings text) → IfOk r (λ x. IsMovesTextOf states m headings text x.0 x.1)
+moves_found states m headings text r h =
+    let are = moves_are states m headings text in
+    found_of (AreUpdates states m headings text) (λ f. HasMovesFault states m headings text f) r
+    (moves_of states m headings text) are h
 
-pub moves_faulty : (m : CellMap) (headings : ℕ) (text : List ℕ) (r : Result Updates ChangeFault)
-    → Answers NoMemory (λ x. x) r (moves_of m headings text)
-    → IfErr r (λ f. f ≢ NoMemory → HasMovesFault m headings text f)
-moves_faulty m headings text r h =
-    let are = moves_are m headings text in
-    faulty_of (AreUpdates m headings text) (λ f. HasMovesFault m headings text f) r (moves_of m headings text) are h
+pub moves_faulty : (states : ℕ) (m : CellMap) (headings : ℕ) (text : List ℕ) (r : Result Updates ChangeFault)
+    → Answers NoMemory (λ x. x) r (moves_of states m headings text)
+    → IfErr r (λ f. f ≢ NoMemory → HasMovesFault states m headings text f)
+moves_faulty states m headings text r h =
+    let are = moves_are states m headings text in
+    faulty_of (AreUpdates states m headings text) (λ f. HasMovesFault states m headings text f) r
+    (moves_of states m headings text) are h
 
-told_on : (m : CellMap) (headings : ℕ) (text : List ℕ) (told : List (List Given))
-    → StandsFor m (Some headings) text told → AreGivenOn m (Some headings) told
-told_on m headings text told h = given_on m (Some headings) (lines_with_fields (lines text)) told h
+told_on : (states : ℕ) (m : CellMap) (headings : ℕ) (text : List ℕ) (told : List (List Given))
+    → StandsFor states m (Some headings) text told → AreGivenOn m (Some headings) told
+told_on states m headings text told h = given_on states m (Some headings) (lines_with_fields (lines text)) told h
 
-pub moves_on : (m : CellMap) (headings : ℕ) (text : List ℕ) (r : Result Updates ChangeFault)
-    → IfOk r (λ x. IsMovesTextOf m headings text x.0 x.1) → IfOk r (λ x. AreOnMap m x.0)
-moves_on m headings text (Ok x) h =
-    subst (λ l. AreOnMap m l) (sym h.2) (all_writes_on m (Some headings) h.0 (told_on m headings text h.0 h.1))
-moves_on m headings text (Err f) h = tt
+pub moves_on : (states : ℕ) (m : CellMap) (headings : ℕ) (text : List ℕ) (r : Result Updates ChangeFault)
+    → IfOk r (λ x. IsMovesTextOf states m headings text x.0 x.1) → IfOk r (λ x. AreOnMap m x.0)
+moves_on states m headings text (Ok x) h =
+    subst (λ l. AreOnMap m l) (sym h.2) (all_writes_on m (Some headings) h.0 (told_on states m headings text h.0 h.1))
+moves_on states m headings text (Err f) h = tt
 
-pub places_on : (m : CellMap) (headings : ℕ) (text : List ℕ) (r : Result Updates ChangeFault)
-    → IfOk r (λ x. IsMovesTextOf m headings text x.0 x.1) → IfOk r (λ x. ArePlacesOnMap m headings x.1)
-places_on m headings text (Ok x) h =
-    subst (λ l. ArePlacesOnMap m headings l) (sym h.3) (all_places_on m headings h.0 (told_on m headings text h.0 h.1))
-places_on m headings text (Err f) h = tt
+pub places_on : (states : ℕ) (m : CellMap) (headings : ℕ) (text : List ℕ) (r : Result Updates ChangeFault)
+    → IfOk r (λ x. IsMovesTextOf states m headings text x.0 x.1) → IfOk r (λ x. ArePlacesOnMap m headings x.1)
+places_on states m headings text (Ok x) h =
+    subst (λ l. ArePlacesOnMap m headings l) (sym h.3) (all_places_on m headings h.0 (told_on states m headings text h.0 h.1))
+places_on states m headings text (Err f) h = tt
 
 as_many : (told : List (List Given)) → length (map place_of told) ≡ length (map writes_of told)
 as_many [] = refl
 as_many (b ∷ bs) = omega (arith, as_many bs)
 
-pub one_for_each : (m : CellMap) (headings : ℕ) (text : List ℕ) (r : Result Updates ChangeFault)
-    → IfOk r (λ x. IsMovesTextOf m headings text x.0 x.1) → IfOk r (λ x. length x.1 ≡ length x.0)
-one_for_each m headings text (Ok x) h = rw (h.2, h.3) (as_many h.0)
-one_for_each m headings text (Err f) h = tt
+pub one_for_each : (states : ℕ) (m : CellMap) (headings : ℕ) (text : List ℕ) (r : Result Updates ChangeFault)
+    → IfOk r (λ x. IsMovesTextOf states m headings text x.0 x.1) → IfOk r (λ x. length x.1 ≡ length x.0)
+one_for_each states m headings text (Ok x) h = rw (h.2, h.3) (as_many h.0)
+one_for_each states m headings text (Err f) h = tt
 
 -- ---- texts without starts
 
-stands_alike : (m : CellMap) (one other : Option ℕ) (text : List ℕ) (told : List (List Given))
-    → told_by m one text ≡ told_by m other text → StandsFor m one text told → StandsFor m other text told
-stands_alike m one other text told e h =
-    let gives : told_by m other text ≡ Ok told = sym e ∙ text_gives m one text told h in
-    subst (λ r. Gave m other text r) gives (gave_of m other text)
+stands_alike : (states : ℕ) (m : CellMap) (one other : Option ℕ) (text : List ℕ) (told : List (List Given))
+    → told_by states m one text ≡ told_by states m other text → StandsFor states m one text told
+    → StandsFor states m other text told
+stands_alike states m one other text told e h =
+    let gives : told_by states m other text ≡ Ok told = sym e ∙ text_gives states m one text told h in
+    subst (λ r. Gave states m other text r) gives (gave_of states m other text)
 
-fault_alike : (m : CellMap) (one other : Option ℕ) (text : List ℕ) (f : ChangeFault)
-    → told_by m one text ≡ told_by m other text → HasTextFault m one text f → HasTextFault m other text f
-fault_alike m one other text f e h =
-    let gives : told_by m other text ≡ Err f = sym e ∙ fault_gives m one text f h in
-    subst (λ r. Gave m other text r) gives (gave_of m other text)
+fault_alike : (states : ℕ) (m : CellMap) (one other : Option ℕ) (text : List ℕ) (f : ChangeFault)
+    → told_by states m one text ≡ told_by states m other text → HasTextFault states m one text f
+    → HasTextFault states m other text f
+fault_alike states m one other text f e h =
+    let gives : told_by states m other text ≡ Err f = sym e ∙ fault_gives states m one text f h in
+    subst (λ r. Gave states m other text r) gives (gave_of states m other text)
 
-no_starts_told : (m : CellMap) (headings : ℕ) (text : List ℕ) (told : List (List Given)) (batches : List (List Write))
+no_starts_told : (states : ℕ) (m : CellMap) (headings : ℕ) (text : List ℕ) (told : List (List Given)) (batches : List (List Write))
     (moves : List (Option Place))
-    → StandsFor m None text told → batches ≡ map writes_of told → moves ≡ map place_of told
-    → IsTextOf m text batches × (moves ≡ no_moves batches)
-no_starts_told m headings text told batches moves s b p =
-    let here : told ≡ writes_alone batches = alone_is m text told s ∙ ap writes_alone (sym b) in
-    (subst (λ l. StandsFor m None text l) here s, p ∙ ap (λ l. map place_of l) here ∙ no_places batches)
+    → StandsFor states m None text told → batches ≡ map writes_of told → moves ≡ map place_of told
+    → IsTextOf states m text batches × (moves ≡ no_moves batches)
+no_starts_told states m headings text told batches moves s b p =
+    let here : told ≡ writes_alone batches = alone_is states m text told s ∙ ap writes_alone (sym b) in
+    (subst (λ l. StandsFor states m None text l) here s, p ∙ ap (λ l. map place_of l) here ∙ no_places batches)
 
-pub same_batches : (m : CellMap) (headings : ℕ) (text : List ℕ) (batches : List (List Write))
+pub same_batches : (states : ℕ) (m : CellMap) (headings : ℕ) (text : List ℕ) (batches : List (List Write))
     (moves : List (Option Place))
     → HasNoStarts text
-    → IsMovesTextOf m headings text batches moves ↔ (IsTextOf m text batches × (moves ≡ no_moves batches))
-same_batches m headings text batches moves none =
-    let e = told_alike m (Some headings) text none in (
+    → IsMovesTextOf states m headings text batches moves ↔ (IsTextOf states m text batches × (moves ≡ no_moves batches))
+same_batches states m headings text batches moves none =
+    let e = told_alike states m (Some headings) text none in (
       λ h. (
-          let stands = stands_alike m (Some headings) None text h.0 e h.1 in
-          no_starts_told m headings text h.0 batches moves stands h.2 h.3
+          let stands = stands_alike states m (Some headings) None text h.0 e h.1 in
+          no_starts_told states m headings text h.0 batches moves stands h.2 h.3
           ),
       λ h. (
         writes_alone batches,
-        stands_alike m None (Some headings) text (writes_alone batches) (sym e) h.0,
+        stands_alike states m None (Some headings) text (writes_alone batches) (sym e) h.0,
         sym (all_writes_back batches),
         h.1 ∙ sym (no_places batches),
       ),
     )
 
-pub same_fault : (m : CellMap) (headings : ℕ) (text : List ℕ) (f : ChangeFault) → HasNoStarts text
-    → HasMovesFault m headings text f ↔ HasFault m text f
-same_fault m headings text f none =
-    let e = told_alike m (Some headings) text none in
-    (λ h. fault_alike m (Some headings) None text f e h, λ h. fault_alike m None (Some headings) text f (sym e) h)
+pub same_fault : (states : ℕ) (m : CellMap) (headings : ℕ) (text : List ℕ) (f : ChangeFault) → HasNoStarts text
+    → HasMovesFault states m headings text f ↔ HasFault states m text f
+same_fault states m headings text f none =
+    let e = told_alike states m (Some headings) text none in
+    (λ h. fault_alike states m (Some headings) None text f e h, λ h. fault_alike states m None (Some headings) text f (sym e) h)

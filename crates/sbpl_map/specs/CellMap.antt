@@ -7,18 +7,18 @@ pub record CellMap : Type 0 where
   pub height : ℕ
   pub costs : List ℕ
 
--- a map may have this many cells along x and along y: at least one of each, and at most 2 ^ 23 cells in all
+-- a map may have this many cells along x and along y: at least one of each, and at most 2 ^ 28 cells in all
 pub record IsMapSize (columns rows : ℕ) : Type 0 where
-  pub width : (1 ≤ columns) × (columns ≤ 8388608)
-  pub height : (1 ≤ rows) × (rows ≤ 8388608)
-  pub few_cells : columns * rows ≤ 8388608
+  pub width : (1 ≤ columns) × (columns ≤ 268435456)
+  pub height : (1 ≤ rows) × (rows ≤ 268435456)
+  pub few_cells : columns * rows ≤ 268435456
 
--- a map has one cost for each cell, in 0..255, and at most 2 ^ 23 cells
+-- a map has one cost for each cell, in 0..255, and at most 2 ^ 28 cells
 pub record IsCellMap (m : CellMap) : Type 0 where
-  pub width : (1 ≤ m.width) × (m.width ≤ 8388608)
-  pub height : (1 ≤ m.height) × (m.height ≤ 8388608)
+  pub width : (1 ≤ m.width) × (m.width ≤ 268435456)
+  pub height : (1 ≤ m.height) × (m.height ≤ 268435456)
   pub cells : length m.costs ≡ m.width * m.height
-  pub few_cells : m.width * m.height ≤ 8388608
+  pub few_cells : m.width * m.height ≤ 268435456
   pub costs : (i : ℕ) → slice_index m.costs i ≤ 255
 
 -- cell (x, y) lies on the map

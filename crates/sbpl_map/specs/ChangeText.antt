@@ -35,10 +35,10 @@ HasThree headings line limit x y z =
 abbrev pub IsNumberBelow : ℕ → List ℕ → ℕ → Type 0
 IsNumberBelow limit field n = (whole_of field ≡ Ok (pos n)) × (n < limit)
 
--- three fields give a cell and a third number, each in its range
-pub record Give (limit : ℕ) (x y z : List ℕ) (column row third : ℕ) : Type 0 where
-  pub x_is : IsNumberBelow 8388608 x column
-  pub y_is : IsNumberBelow 8388608 y row
+-- three fields give a cell and a third number, each in its range; a column and a row are below the limit of states
+pub record Give (states limit : ℕ) (x y z : List ℕ) (column row third : ℕ) : Type 0 where
+  pub x_is : IsNumberBelow states x column
+  pub y_is : IsNumberBelow states y row
   pub z_is : IsNumberBelow limit z third
 
 -- the cell is on the map
@@ -51,15 +51,15 @@ abbrev pub IsWriteOnMap : CellMap → Write → Type 0
 IsWriteOnMap m w = IsCellOnMap m w.x w.y
 
 -- the fields of a line say nothing, a write to the map, where the robot is, or that the batch ends
-abbrev pub LineTells : CellMap → Option ℕ → List (List ℕ) → Said → Type 0
-LineTells m headings line Nothing = line ≡ []
-LineTells m headings line (Cell w) =
-    (x : List ℕ) × (y : List ℕ) × (c : List ℕ) × (line ≡ cell_line x y c) × Give 256 x y c w.x w.y w.cost
+abbrev pub LineTells : (states : ℕ) → CellMap → Option ℕ → List (List ℕ) → Said → Type 0
+LineTells states m headings line Nothing = line ≡ []
+LineTells states m headings line (Cell w) =
+    (x : List ℕ) × (y : List ℕ) × (c : List ℕ) × (line ≡ cell_line x y c) × Give states 256 x y c w.x w.y w.cost
     × IsWriteOnMap m w
-LineTells m headings line (Start p) =
+LineTells states m headings line (Start p) =
     (x : List ℕ) × (y : List ℕ) × (t : List ℕ) × (line ≡ start_line x y t)
-    × ((limit : ℕ) × (headings ≡ Some limit) × Give limit x y t p.x p.y p.t) × IsCellOnMap m p.x p.y
-LineTells m headings line Replan = line ≡ replan_line
+    × ((limit : ℕ) × (headings ≡ Some limit) × Give states limit x y t p.x p.y p.t) × IsCellOnMap m p.x p.y
+LineTells states m headings line Replan = line ≡ replan_line
 
 -- ---- texts
 
@@ -68,11 +68,12 @@ abbrev pub lines_with_fields : List (List ℕ) → List (List (List ℕ))
 lines_with_fields text_lines = filter has_some (map fields text_lines)
 
 -- each says what stands at its index in the list, and both have the same length
-abbrev pub LinesTell : CellMap → Option ℕ → List (List (List ℕ)) → List Said → Type 0
-LinesTell m headings [] [] = Unit {0}
-LinesTell m headings [] (said ∷ more) = ⊥
-LinesTell m headings (line ∷ others) [] = ⊥
-LinesTell m headings (line ∷ others) (said ∷ more) = LineTells m headings line said × LinesTell m headings others more
+abbrev pub LinesTell : (states : ℕ) → CellMap → Option ℕ → List (List (List ℕ)) → List Said → Type 0
+LinesTell states m headings [] [] = Unit {0}
+LinesTell states m headings [] (said ∷ more) = ⊥
+LinesTell states m headings (line ∷ others) [] = ⊥
+LinesTell states m headings (line ∷ others) (said ∷ more) =
+    LineTells states m headings line said × LinesTell states m headings others more
 
 -- what a line of a batch gives: a write, or where the robot is
 abbrev pub Given : Type 0
@@ -88,27 +89,27 @@ spelled_batch batch = map said_by batch ++ Replan ∷ []
 
 -- The text stands for the batches, each as what its lines give: its lines that have fields are those of the batches and
 -- their ends, one after another.
-abbrev pub StandsFor : CellMap → Option ℕ → List ℕ → List (List Given) → Type 0
-StandsFor m headings text told = LinesTell m headings (lines_with_fields (lines text)) (flat_map spelled_batch told)
+abbrev pub StandsFor : (states : ℕ) → CellMap → Option ℕ → List ℕ → List (List Given) → Type 0
+StandsFor states m headings text told = LinesTell states m headings (lines_with_fields (lines text)) (flat_map spelled_batch told)
 
 -- ---- texts of writes alone
 
 abbrev pub writes_alone : List (List Write) → List (List Given)
 writes_alone batches = map (λ batch. map (λ w. inl w) batch) batches
 
-abbrev pub LinesSay : CellMap → List (List (List ℕ)) → List Said → Type 0
-LinesSay m told_lines said = LinesTell m None told_lines said
+abbrev pub LinesSay : (states : ℕ) → CellMap → List (List (List ℕ)) → List Said → Type 0
+LinesSay states m told_lines said = LinesTell states m None told_lines said
 
 abbrev pub spelled : List (List Write) → List Said
 spelled batches = flat_map spelled_batch (writes_alone batches)
 
 -- the text stands for the batches, and no line says where a robot is
-abbrev pub IsTextOf : CellMap → List ℕ → List (List Write) → Type 0
-IsTextOf m text batches = StandsFor m None text (writes_alone batches)
+abbrev pub IsTextOf : (states : ℕ) → CellMap → List ℕ → List (List Write) → Type 0
+IsTextOf states m text batches = StandsFor states m None text (writes_alone batches)
 
 -- the text stands for batches
-abbrev pub IsText : CellMap → List ℕ → Type 0
-IsText m text = (batches : List (List Write)) × IsTextOf m text batches
+abbrev pub IsText : (states : ℕ) → CellMap → List ℕ → Type 0
+IsText states m text = (batches : List (List Write)) × IsTextOf states m text batches
 
 -- each write is to a cell of the map
 abbrev pub AreOnMap : CellMap → List (List Write) → Type 0
@@ -133,14 +134,14 @@ abbrev pub place_of : List Given → Option Place
 place_of batch = last_or None (filter_map place_in batch)
 
 -- the text stands for the batches of writes, and for one place or none for each batch
-abbrev pub IsMovesTextOf : CellMap → (headings : ℕ) → List ℕ → List (List Write) → List (Option Place) → Type 0
-IsMovesTextOf m headings text batches moves =
-    (told : List (List Given)) × StandsFor m (Some headings) text told × (batches ≡ map writes_of told) ×
+abbrev pub IsMovesTextOf : (states : ℕ) → CellMap → (headings : ℕ) → List ℕ → List (List Write) → List (Option Place) → Type 0
+IsMovesTextOf states m headings text batches moves =
+    (told : List (List Given)) × StandsFor states m (Some headings) text told × (batches ≡ map writes_of told) ×
     (moves ≡ map place_of told)
 
-abbrev pub IsMovesText : CellMap → (headings : ℕ) → List ℕ → Type 0
-IsMovesText m headings text =
-    (batches : List (List Write)) × (moves : List (Option Place)) × IsMovesTextOf m headings text batches moves
+abbrev pub IsMovesText : (states : ℕ) → CellMap → (headings : ℕ) → List ℕ → Type 0
+IsMovesText states m headings text =
+    (batches : List (List Write)) × (moves : List (Option Place)) × IsMovesTextOf states m headings text batches moves
 
 -- where there is a place, its cell is on the map and its heading is below the number of headings
 abbrev pub IsPlaceOnMap : CellMap → (headings : ℕ) → Option Place → Type 0

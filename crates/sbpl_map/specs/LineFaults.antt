@@ -34,14 +34,14 @@ abbrev pub HaveNoNumber : List ℕ → List ℕ → List ℕ → Type 0
 HaveNoNumber x y z = IsNoNumber x ⊎ (IsNoNumber y ⊎ IsNoNumber z)
 
 -- all three are, and one lies outside its range
-pub record AreOutside (limit : ℕ) (x y z : List ℕ) : Type 0 where
+pub record AreOutside (states limit : ℕ) (x y z : List ℕ) : Type 0 where
   pub numbers : HaveNoNumber x y z → ⊥
-  pub outside : IsOutside 8388608 x ⊎ (IsOutside 8388608 y ⊎ IsOutside limit z)
+  pub outside : IsOutside states x ⊎ (IsOutside states y ⊎ IsOutside limit z)
 
 -- all three lie in their ranges, and the cell is not on the map
-abbrev pub AreOffMap : CellMap → (limit : ℕ) → List ℕ → List ℕ → List ℕ → Type 0
-AreOffMap m limit x y z =
-    (column : ℕ) × (row : ℕ) × (third : ℕ) × Give limit x y z column row third × (IsCellOnMap m column row → ⊥)
+abbrev pub AreOffMap : (states : ℕ) → CellMap → (limit : ℕ) → List ℕ → List ℕ → List ℕ → Type 0
+AreOffMap states m limit x y z =
+    (column : ℕ) × (row : ℕ) × (third : ℕ) × Give states limit x y z column row third × (IsCellOnMap m column row → ⊥)
 
 -- the line has three fields after its word, and P holds of the limit of the third and of the fields
 abbrev pub OfThree : Option ℕ → List (List ℕ) → (ℕ → List ℕ → List ℕ → List ℕ → Type 0) → Type 0
@@ -49,59 +49,60 @@ OfThree headings line P =
     (limit : ℕ) × (x : List ℕ) × (y : List ℕ) × (z : List ℕ) × HasThree headings line limit x y z × P limit x y z
 
 -- the fault of the line with this number
-abbrev pub HasLineFault : CellMap → Option ℕ → ℕ → List (List ℕ) → ChangeFault → Type 0
-HasLineFault m headings at line (Word n) = (n ≡ at) × IsOther headings line
-HasLineFault m headings at line (Number n) = (n ≡ at) × OfThree headings line (λ limit. HaveNoNumber)
-HasLineFault m headings at line (Range n) = (n ≡ at) × OfThree headings line AreOutside
-HasLineFault m headings at line (OffMap n) = (n ≡ at) × OfThree headings line (AreOffMap m)
-HasLineFault m headings at line (NoReplan n) = ⊥
-HasLineFault m headings at line NoMemory = ⊥
+abbrev pub HasLineFault : (states : ℕ) → CellMap → Option ℕ → ℕ → List (List ℕ) → ChangeFault → Type 0
+HasLineFault states m headings at line (Word n) = (n ≡ at) × IsOther headings line
+HasLineFault states m headings at line (Number n) = (n ≡ at) × OfThree headings line (λ limit. HaveNoNumber)
+HasLineFault states m headings at line (Range n) = (n ≡ at) × OfThree headings line (AreOutside states)
+HasLineFault states m headings at line (OffMap n) = (n ≡ at) × OfThree headings line (AreOffMap states m)
+HasLineFault states m headings at line (NoReplan n) = ⊥
+HasLineFault states m headings at line NoMemory = ⊥
 
 -- ---- of a text, by its lines
 
 -- no line has a fault: each says something, or nothing because it has no fields
-abbrev pub AreSound : CellMap → Option ℕ → List (List ℕ) → Type 0
-AreSound m headings text_lines = AllByRecursion (λ line. (s : Said) × LineTells m headings (fields line) s) text_lines
+abbrev pub AreSound : (states : ℕ) → CellMap → Option ℕ → List (List ℕ) → Type 0
+AreSound states m headings text_lines = AllByRecursion (λ line. (s : Said) × LineTells states m headings (fields line) s) text_lines
 
 -- The first of the lines with a fault has this one. The lines are numbered from `first`.
-pub record IsFirstFault (m : CellMap) (headings : Option ℕ) (first : ℕ) (text_lines : List (List ℕ)) (f : ChangeFault)
+pub record IsFirstFault (states : ℕ) (m : CellMap) (headings : Option ℕ) (first : ℕ) (text_lines : List (List ℕ)) (f : ChangeFault)
     : Type 0 where
   pub before : List (List ℕ)
   pub line : List ℕ
   pub after : List (List ℕ)
   pub parts : text_lines ≡ before ++ line ∷ after
-  pub sound : AreSound m headings before
-  pub fault : HasLineFault m headings (first + length before) (fields line) f
+  pub sound : AreSound states m headings before
+  pub fault : HasLineFault states m headings (first + length before) (fields line) f
 
 -- No line has a fault, and the last one that has fields, which has this number, is that of a cell or of a start.
-pub record LacksReplan (m : CellMap) (headings : Option ℕ) (first : ℕ) (text_lines : List (List ℕ)) (at : ℕ)
+pub record LacksReplan (states : ℕ) (m : CellMap) (headings : Option ℕ) (first : ℕ) (text_lines : List (List ℕ)) (at : ℕ)
     : Type 0 where
   pub before : List (List ℕ)
   pub line : List ℕ
   pub after : List (List ℕ)
   pub parts : text_lines ≡ before ++ line ∷ after
-  pub sound : AreSound m headings before
+  pub sound : AreSound states m headings before
   pub given : Given
-  pub gives : LineTells m headings (fields line) (said_by given)
+  pub gives : LineTells states m headings (fields line) (said_by given)
   pub skipped : AllByRecursion (λ l. fields l ≡ []) after
   pub number : at ≡ first + length before
 
 -- The text's fault is that of its first faulty line; where no line is faulty, that of a cell's or a start's line after
 -- which no batch ends.
-abbrev pub HasTextFault : CellMap → Option ℕ → List ℕ → ChangeFault → Type 0
-HasTextFault m headings text f =
-    IsFirstFault m headings 1 (lines text) f ⊎ ((at : ℕ) × (f ≡ NoReplan at) × LacksReplan m headings 1 (lines text) at)
+abbrev pub HasTextFault : (states : ℕ) → CellMap → Option ℕ → List ℕ → ChangeFault → Type 0
+HasTextFault states m headings text f =
+    IsFirstFault states m headings 1 (lines text) f
+    ⊎ ((at : ℕ) × (f ≡ NoReplan at) × LacksReplan states m headings 1 (lines text) at)
 
 -- the fault where no line can say where a robot is
-abbrev pub HasFault : CellMap → List ℕ → ChangeFault → Type 0
-HasFault m text f = HasTextFault m None text f
+abbrev pub HasFault : (states : ℕ) → CellMap → List ℕ → ChangeFault → Type 0
+HasFault states m text f = HasTextFault states m None text f
 
-abbrev pub IsFaulty : CellMap → List ℕ → Type 0
-IsFaulty m text = (f : ChangeFault) × (f ≢ NoMemory) × HasFault m text f
+abbrev pub IsFaulty : (states : ℕ) → CellMap → List ℕ → Type 0
+IsFaulty states m text = (f : ChangeFault) × (f ≢ NoMemory) × HasFault states m text f
 
 -- and where lines can, with headings below this number
-abbrev pub HasMovesFault : CellMap → (headings : ℕ) → List ℕ → ChangeFault → Type 0
-HasMovesFault m headings text f = HasTextFault m (Some headings) text f
+abbrev pub HasMovesFault : (states : ℕ) → CellMap → (headings : ℕ) → List ℕ → ChangeFault → Type 0
+HasMovesFault states m headings text f = HasTextFault states m (Some headings) text f
 
-abbrev pub IsMovesFaulty : CellMap → (headings : ℕ) → List ℕ → Type 0
-IsMovesFaulty m headings text = (f : ChangeFault) × (f ≢ NoMemory) × HasMovesFault m headings text f
+abbrev pub IsMovesFaulty : (states : ℕ) → CellMap → (headings : ℕ) → List ℕ → Type 0
+IsMovesFaulty states m headings text = (f : ChangeFault) × (f ≢ NoMemory) × HasMovesFault states m headings text f

@@ -17,9 +17,10 @@ batch_lines batch = map write_line batch ++ replan_line ∷ []
 abbrev pub changes_text : List (List Write) → List ℕ
 changes_text batches = lines_text (flat_map batch_lines batches)
 
--- the cells of the writes are on the map, which is not too large, and their costs are those that a cell may have
-pub record AreChangesOf (m : CellMap) (batches : List (List Write)) : Type 0 where
-  pub width : m.width ≤ 8388608
-  pub height : m.height ≤ 8388608
+-- the cells of the writes are on the map, whose sides are within the limit of states, and their costs are those that a
+-- cell may have
+pub record AreChangesOf (states : ℕ) (m : CellMap) (batches : List (List Write)) : Type 0 where
+  pub width : m.width ≤ states
+  pub height : m.height ≤ states
   pub on_map : AreOnMap m batches
   pub costs : AllByRecursion (λ batch. AllByRecursion (λ w. w.cost ≤ 255) batch) batches

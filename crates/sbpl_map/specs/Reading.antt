@@ -41,11 +41,11 @@ on_map m at (Some x) (Some y) (Some z) =
     if nat_lt x m.width && nat_lt y m.height then Ok (x, y, z) else Err (OffMap at)
 
 -- the numbers, where three were read
-abbrev pub measured : CellMap → ℕ → (limit : ℕ) → Result ℤ NumFault → Result ℤ NumFault → Result ℤ NumFault
+abbrev pub measured : (states : ℕ) → CellMap → ℕ → (limit : ℕ) → Result ℤ NumFault → Result ℤ NumFault → Result ℤ NumFault
     → Result Three ChangeFault
-measured m at limit x y z =
+measured states m at limit x y z =
     if lacks_form x || (lacks_form y || lacks_form z) then Err (Number at)
-    else on_map m at (in_range 8388608 x) (in_range 8388608 y) (in_range limit z)
+    else on_map m at (in_range states x) (in_range states y) (in_range limit z)
 
 -- the fields of a list that has just three
 abbrev pub three : List (List ℕ) → Option (List ℕ × List ℕ × List ℕ)
@@ -56,9 +56,9 @@ three (x ∷ y ∷ z ∷ []) = Some (x, y, z)
 three (x ∷ y ∷ z ∷ d ∷ more) = None
 
 -- the numbers that the three fields after a word give
-abbrev pub numbers : CellMap → ℕ → (limit : ℕ) → Option (List ℕ × List ℕ × List ℕ) → Result Three ChangeFault
-numbers m at limit None = Err (Word at)
-numbers m at limit (Some t) = measured m at limit (whole_of t.0) (whole_of t.1) (whole_of t.2)
+abbrev pub numbers : (states : ℕ) → CellMap → ℕ → (limit : ℕ) → Option (List ℕ × List ℕ × List ℕ) → Result Three ChangeFault
+numbers states m at limit None = Err (Word at)
+numbers states m at limit (Some t) = measured states m at limit (whole_of t.0) (whole_of t.1) (whole_of t.2)
 
 abbrev pub cell_said : Result Three ChangeFault → Result Said ChangeFault
 cell_said (Ok n) = Ok (Cell (record { x = n.0; y = n.1; cost = n.2 }))
@@ -69,9 +69,9 @@ start_said (Ok n) = Ok (Start (record { x = n.0; y = n.1; t = n.2 }))
 start_said (Err e) = Err e
 
 -- where the robot is, where a line can say so
-abbrev pub started : CellMap → Option ℕ → ℕ → List (List ℕ) → Result Said ChangeFault
-started m None at more = Err (Word at)
-started m (Some headings) at more = start_said (numbers m at headings (three more))
+abbrev pub started : (states : ℕ) → CellMap → Option ℕ → ℕ → List (List ℕ) → Result Said ChangeFault
+started states m None at more = Err (Word at)
+started states m (Some headings) at more = start_said (numbers states m at headings (three more))
 
 -- the batch ends where nothing stands after its word
 abbrev pub ended : ℕ → List (List ℕ) → Result Said ChangeFault
@@ -79,11 +79,11 @@ ended at [] = Ok Replan
 ended at (x ∷ more) = Err (Word at)
 
 -- what the fields of the line with this number say, or its fault
-unfoldable pub judged : CellMap → Option ℕ → ℕ → List (List ℕ) → Result Said ChangeFault
-judged m headings at [] = Ok Nothing
-judged m headings at (word ∷ more) =
-    if bytes_eq word (codes "cell") then cell_said (numbers m at 256 (three more))
-    else (if bytes_eq word (codes "start") then started m headings at more
+unfoldable pub judged : (states : ℕ) → CellMap → Option ℕ → ℕ → List (List ℕ) → Result Said ChangeFault
+judged states m headings at [] = Ok Nothing
+judged states m headings at (word ∷ more) =
+    if bytes_eq word (codes "cell") then cell_said (numbers states m at 256 (three more))
+    else (if bytes_eq word (codes "start") then started states m headings at more
     else (if bytes_eq word (codes "replan") then ended at more else Err (Word at)))
 
 -- ---- lines
@@ -118,14 +118,14 @@ then_on (Ok x) more = more x
 then_on (Err e) more = Err e
 
 -- the lines from this number on
-unfoldable pub reads_on : CellMap → Option ℕ → ℕ → List (List ℕ) → Drafted → Result (List (List Given)) ChangeFault
-reads_on m headings at [] d = closed d
-reads_on m headings at (line ∷ more) d =
-    then_on (judged m headings at (fields line)) (λ s. reads_on m headings (at + 1) more (drafted d at s))
+unfoldable pub reads_on : (states : ℕ) → CellMap → Option ℕ → ℕ → List (List ℕ) → Drafted → Result (List (List Given)) ChangeFault
+reads_on states m headings at [] d = closed d
+reads_on states m headings at (line ∷ more) d =
+    then_on (judged states m headings at (fields line)) (λ s. reads_on states m headings (at + 1) more (drafted d at s))
 
 -- a whole text
-abbrev pub told_by : CellMap → Option ℕ → List ℕ → Result (List (List Given)) ChangeFault
-told_by m headings text = reads_on m headings 1 (lines text) nothing_read
+abbrev pub told_by : (states : ℕ) → CellMap → Option ℕ → List ℕ → Result (List (List Given)) ChangeFault
+told_by states m headings text = reads_on states m headings 1 (lines text) nothing_read
 
 -- ---- what is kept of it: the writes of each batch, and where the robot is
 

@@ -19,7 +19,7 @@ pub enum ChangeFault {
     /// A field after `cell` or `start` is not a whole number.
     #[error("not a whole number, at line {0}")]
     Number(u64),
-    /// x or y is outside 0..8388607, the cost is outside 0..255, or the heading is not below the number of headings.
+    /// x or y is not below the limit of states, the cost is outside 0..255, or the heading is not below the number of headings.
     #[error("a number outside its range, at line {0}")]
     Range(u64),
     /// The cell is not on the map.

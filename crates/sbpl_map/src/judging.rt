@@ -11,9 +11,6 @@ use crate::said::Said;
 use crate::write::Write;
 use sbpl_cfg::{NumFault, Place, read_whole};
 
-/// A column or a row that a line names is below this.
-const CELLS: u32 = 8_388_608;
-
 /// A cost is below this.
 const COSTS: u32 = 256;
 
@@ -56,7 +53,8 @@ fn on_map(
     }
 }
 
-/// The numbers of three fields: each must be a whole number, then each in its range, and then the cell on the map.
+/// The numbers of three fields: each must be a whole number, then each in its range, and then the cell on the map. A column or
+/// a row that a line names is below `states`, the limit of states, and the third number below `limit`.
 fn measured(
     map: &Map,
     number: u64,
@@ -64,16 +62,17 @@ fn measured(
     x: Result<i64, NumFault>,
     y: Result<i64, NumFault>,
     third: Result<i64, NumFault>,
+    states: u32,
 ) -> Result<(u32, u32, u32), ChangeFault>
-    ensures three { result ≡ measured map.now number limit x y third }
+    ensures three { result ≡ measured states map.now number limit x y third }
     ensures small { IfOk result (λ n. n.2 < limit) }
 {
     if lacks_form(x) || lacks_form(y) || lacks_form(third) {
         return Err(ChangeFault::Number(number));
     }
     match (
-        in_range(x, CELLS),
-        in_range(y, CELLS),
+        in_range(x, states),
+        in_range(y, states),
         in_range(third, limit),
     ) {
         (Some(x), Some(y), Some(third)) => on_map(map, number, x, y, third),
@@ -95,8 +94,14 @@ fn three_fields(line: &[u8]) -> Option<(&[u8], &[u8], &[u8])>
 }
 
 /// The numbers of the fields after a word that wants three: a cell, and a third number below the limit.
-fn numbers(map: &Map, number: u64, limit: u32, line: &[u8]) -> Result<(u32, u32, u32), ChangeFault>
-    ensures three { result ≡ numbers map.now number limit (three (fields line.now)) }
+fn numbers(
+    map: &Map,
+    number: u64,
+    limit: u32,
+    line: &[u8],
+    states: u32,
+) -> Result<(u32, u32, u32), ChangeFault>
+    ensures three { result ≡ numbers states map.now number limit (three (fields line.now)) }
     ensures small { IfOk result (λ n. n.2 < limit) }
 {
     match three_fields(line) {
@@ -107,28 +112,35 @@ fn numbers(map: &Map, number: u64, limit: u32, line: &[u8]) -> Result<(u32, u32,
             read_whole(x),
             read_whole(y),
             read_whole(third),
+            states,
         ),
         None => Err(ChangeFault::Word(number)),
     }
 }
 
 /// The write of the fields after the word of a cell.
-fn written(map: &Map, number: u64, line: &[u8]) -> Result<Said, ChangeFault>
-    ensures said { result ≡ cell_said (numbers map.now number 256 (three (fields line.now))) }
+fn written(map: &Map, number: u64, line: &[u8], states: u32) -> Result<Said, ChangeFault>
+    ensures said { result ≡ cell_said (numbers states map.now number 256 (three (fields line.now))) }
 {
-    let (x, y, cost) = numbers(map, number, COSTS, line)?;
+    let (x, y, cost) = numbers(map, number, COSTS, line, states)?;
     let cost = cost as u8;
     Ok(Said::Cell(Write { x, y, cost }))
 }
 
 /// Where the robot is by the fields after the word of a start, where lines can say so.
-fn started(map: &Map, headings: Option<u32>, number: u64, line: &[u8]) -> Result<Said, ChangeFault>
-    ensures said { result ≡ started map.now headings number (fields line.now) }
+fn started(
+    map: &Map,
+    headings: Option<u32>,
+    number: u64,
+    line: &[u8],
+    states: u32,
+) -> Result<Said, ChangeFault>
+    ensures said { result ≡ started states map.now headings number (fields line.now) }
 {
     let Some(headings) = headings else {
         return Err(ChangeFault::Word(number));
     };
-    let (x, y, t) = numbers(map, number, headings, line)?;
+    let (x, y, t) = numbers(map, number, headings, line, states)?;
     Ok(Said::Start(Place { x, y, t }))
 }
 
@@ -149,16 +161,17 @@ pub(crate) fn judged(
     headings: Option<u32>,
     number: u64,
     line: &[u8],
+    states: u32,
 ) -> Result<Said, ChangeFault>
-    ensures said { result ≡ judged map.now headings number (fields line.now) }
+    ensures said { result ≡ judged states map.now headings number (fields line.now) }
 {
     let Some((word, rest)) = first_field(line) else {
         return Ok(Said::Nothing);
     };
     if word == b"cell".as_slice() {
-        written(map, number, rest)
+        written(map, number, rest, states)
     } else if word == b"start".as_slice() {
-        started(map, headings, number, rest)
+        started(map, headings, number, rest, states)
     } else if word == b"replan".as_slice() {
         ended(number, rest)
     } else {

@@ -25,7 +25,7 @@ pub use off_map::OffMap;
 pub use read::{read_changes, read_moves};
 pub use sbpl_cfg::{
     COST_WANTED, Env, EnvFault, Grid, HEIGHT_WANTED, Message, NoMemory, OBSTACLE_WANTED, Row,
-    START_WANTED, WIDTH_WANTED, count_before, message_at, read_env, wanted_at,
+    START_WANTED, WIDTH_WANTED, count_before, message_at, read_env, wanted_at, with_limit,
 };
 pub use text::{texts_are_changes_or_faulty, texts_are_moves_or_faulty};
 pub use write::Write;

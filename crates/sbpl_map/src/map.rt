@@ -36,7 +36,7 @@ impl Map {
         Map::plain(env.width, env.height, grid)
     }
 
-    /// The map of a grid of costs with this many cells along x and along y: 1..8388608 each, and at most 2^23 cells in all. The
+    /// The map of a grid of costs with this many cells along x and along y: at least one each, and at most 2^28 cells in all. The
     /// grid has a cost for each of them.
     pub fn plain(width: u32, height: u32, grid: Grid) -> Map
         requires ranges { IsMapSize width height }

@@ -6,7 +6,7 @@ ghost use Rattle.sbpl_map.specs.Faults.{line_of};
 
 use crate::fault::ChangeFault;
 use sbpl_cfg::{Message, NoMemory, message_on_line};
-use std::alloc::Global;
+use std::alloc::{AllocError, Global};
 
 /// A line of a text, counted from 1; empty where there is none.
 fn line_at(text: &[u8], line: u64) -> &[u8] {
@@ -34,57 +34,84 @@ fn indent(line: &[u8]) -> usize
         .count()
 }
 
+/// The ranges of a line's numbers, where there may be this many states.
+fn ranges(alloc: Global, whose: &str, third: &str, states: u32) -> Result<String, AllocError> {
+    let last = states.saturating_sub(1);
+    format!(in alloc; "X and Y of {whose} must be from 0 to {last}, and {third}")
+}
+
 /// What a line must be that has a fault.
-fn wanted(fault: &ChangeFault) -> &'static str {
-    match fault {
+fn wanted(alloc: Global, fault: &ChangeFault, states: u32) -> Result<String, AllocError> {
+    let text = match fault {
         ChangeFault::Word(_) => "a line must be \"cell X Y C\" or \"replan\", or have no fields",
         ChangeFault::Number(_) => "X, Y and C of a cell must be whole numbers",
-        ChangeFault::Range(_) => "X and Y of a cell must be from 0 to 8388607, and C from 0 to 255",
+        ChangeFault::Range(_) => return ranges(alloc, "a cell", "C from 0 to 255", states),
         ChangeFault::OffMap(_) => "the cell must lie on the map",
         ChangeFault::NoReplan(_) => "the line \"replan\" must come after the last cell",
         ChangeFault::NoMemory => "there must be memory",
-    }
+    };
+    String::from_str(alloc, text)
 }
 
 /// What the line of a start must be that has a fault.
-fn wanted_of_start(fault: &ChangeFault) -> &'static str {
-    match fault {
+fn wanted_of_start(alloc: Global, fault: &ChangeFault, states: u32) -> Result<String, AllocError> {
+    let text = match fault {
         ChangeFault::Number(_) => "X, Y and T of a start must be whole numbers",
-        ChangeFault::Range(_) =>
-            "X and Y of a start must be from 0 to 8388607, and T below the number of headings",
+        ChangeFault::Range(_) => return ranges(
+            alloc,
+            "a start",
+            "T below the number of headings",
+            states,
+        ),
         ChangeFault::OffMap(_) => "the start must lie on the map",
         ChangeFault::NoReplan(_) => "the line \"replan\" must come after the last start",
-        _ => wanted(fault),
-    }
+        _ => return wanted(alloc, fault, states),
+    };
+    String::from_str(alloc, text)
 }
 
 /// What a line must be that has a fault, where lines can say where a robot is.
-fn wanted_with_starts(line: &[u8], fault: &ChangeFault) -> &'static str {
+fn wanted_with_starts(
+    alloc: Global,
+    line: &[u8],
+    fault: &ChangeFault,
+    states: u32,
+) -> Result<String, AllocError> {
     match fault {
-        ChangeFault::Word(_) =>
+        ChangeFault::Word(_) => String::from_str(
+            alloc,
             "a line must be \"cell X Y C\", \"start X Y T\" or \"replan\", or have no fields",
-        _ if line.starts_with(b"start") => wanted_of_start(fault),
-        _ => wanted(fault),
+        ),
+        _ if line.starts_with(b"start") => wanted_of_start(alloc, fault, states),
+        _ => wanted(alloc, fault, states),
     }
 }
 
 /// What a line must be that has a fault, where lines cannot say where a robot is.
-fn wanted_without_starts(line: &[u8], fault: &ChangeFault) -> &'static str {
+fn wanted_without_starts(
+    alloc: Global,
+    line: &[u8],
+    fault: &ChangeFault,
+    states: u32,
+) -> Result<String, AllocError> {
     match fault {
-        ChangeFault::Word(_) if line.starts_with(b"start") =>
+        ChangeFault::Word(_) if line.starts_with(b"start") => String::from_str(
+            alloc,
             "\"start X Y T\" is for --planner back alone: a line must be \"cell X Y C\" or \"replan\", or have no fields",
-        _ => wanted(fault),
+        ),
+        _ => wanted(alloc, fault, states),
     }
 }
 
-/// The message of a fault of a change file: on which line it is, at which column the line's first field begins, what the line must
-/// be, and what was found. `moves` says whether lines can say where a robot is.
+/// The message of a fault of a change file that was read with this limit of states: on which line the fault is, at which column
+/// the line's first field begins, what the line must be, and what was found. `moves` says whether lines can say where a robot is.
 pub fn changes_message(
     alloc: Global,
     name: &str,
     text: &[u8],
     moves: bool,
     fault: &ChangeFault,
+    states: u32,
 ) -> Result<Message, NoMemory>
     // It has the line of the fault.
     ensures message { IfOk result (λ m. IsMessageOnLine name.now (line_of fault.now) m) }
@@ -93,10 +120,17 @@ pub fn changes_message(
     let blanks = indent(line);
     let line = &line[blanks..];
     let wanted = if moves {
-        wanted_with_starts(line, fault)
+        wanted_with_starts(alloc, line, fault, states)?
     } else {
-        wanted_without_starts(line, fault)
+        wanted_without_starts(alloc, line, fault, states)?
     };
-    let message = message_on_line(alloc, name, fault.line() as usize, blanks + 1, wanted, line)?;
+    let message = message_on_line(
+        alloc,
+        name,
+        fault.line() as usize,
+        blanks + 1,
+        wanted.as_str(),
+        line,
+    )?;
     Ok(message)
 }

@@ -98,16 +98,17 @@ fn read_lines(
     text: &[u8],
     map: &Map,
     headings: Option<u32>,
+    states: u32,
 ) -> Result<(Changes, Moves), ChangeFault>
     requires short { length text.now ≤ 2 ^ 30 }
-    ensures read { Answers Memory (λ x. x) result (parted (told_by map.now headings text.now)) }
+    ensures read { Answers Memory (λ x. x) result (parted (told_by states map.now headings text.now)) }
 {
     let mut draft = Draft::new(alloc)?;
     let mut rest = text;
     let mut number: u64 = 1;
     while !rest.is_empty() {
         let (line, after) = first_line(rest);
-        draft.add(number, judged(map, headings, number, line)?)?;
+        draft.add(number, judged(map, headings, number, line, states)?)?;
         number += 1;
         rest = after;
     }
@@ -124,24 +125,30 @@ fn alone(read: Result<(Changes, Moves), ChangeFault>) -> Result<Changes, ChangeF
 
 /// Reads a change file of at most 2^30 bytes for a map. Its lines end at line feeds, and one carriage return before a line
 /// feed is dropped. The fields of a line are separated by spaces and tabs. `cell X Y C` writes cost C to cell (X, Y), `replan`
-/// ends a batch, and a line without fields is skipped. A fault is that of the first faulty line; lines are numbered from 1,
-/// skipped ones too.
-pub fn read_changes(alloc: Global, text: &[u8], map: &Map) -> Result<Changes, ChangeFault>
+/// ends a batch, and a line without fields is skipped. X and Y are below `states`, the limit of states. A
+/// fault is that of the first faulty line; lines are numbered from 1, skipped ones too.
+pub fn read_changes(
+    alloc: Global,
+    text: &[u8],
+    map: &Map,
+    states: u32,
+) -> Result<Changes, ChangeFault>
     requires short { length text.now ≤ 2 ^ 30 }
+    requires limit { states ≤ 268435456 }
     // What is read is what the text stands for.
-    ensures found { IfOk result (λ c. IsTextOf map.now text.now c) }
+    ensures found { IfOk result (λ c. IsTextOf states map.now text.now c) }
     // What a text stands for is read, unless memory runs out.
     ensures only { (batches : List (List Write))
-        → IsTextOf map.now text.now batches → Answers Memory (λ c. c) result (Ok batches) }
+        → IsTextOf states map.now text.now batches → Answers Memory (λ c. c) result (Ok batches) }
     // A fault is the text's first one.
-    ensures faulty { IfErr result (λ f. f ≢ Memory → HasFault map.now text.now f) }
+    ensures faulty { IfErr result (λ f. f ≢ Memory → HasFault states map.now text.now f) }
     // The first fault of a text is answered, unless memory runs out.
     ensures only_faulty { (f : ChangeFault)
-        → HasFault map.now text.now f → Answers Memory (λ c. c) result (Err f) }
+        → HasFault states map.now text.now f → Answers Memory (λ c. c) result (Err f) }
     // Each write is to a cell of the map.
     ensures on_map { IfOk result (λ c. AreOnMap map.now c) }
 {
-    alone(read_lines(alloc, text, map, None))
+    alone(read_lines(alloc, text, map, None, states))
 }
 
 /// Reads a change file of at most 2^30 bytes as `read_changes` does, and besides where the robot is. `start X Y T` says
@@ -154,18 +161,20 @@ pub fn read_moves(
     text: &[u8],
     map: &Map,
     headings: u32,
+    states: u32,
 ) -> Result<(Changes, Moves), ChangeFault>
     requires short { length text.now ≤ 2 ^ 30 }
+    requires limit { states ≤ 268435456 }
     // What is read is what the text stands for.
-    ensures found { IfOk result (λ x. IsMovesTextOf map.now headings text.now x.0 x.1) }
+    ensures found { IfOk result (λ x. IsMovesTextOf states map.now headings text.now x.0 x.1) }
     // What a text stands for is read, unless memory runs out.
     ensures only { (batches : List (List Write)) (moves : List (Option Place))
-        → IsMovesTextOf map.now headings text.now batches moves → Answers Memory (λ x. x) result (Ok (batches, moves)) }
+        → IsMovesTextOf states map.now headings text.now batches moves → Answers Memory (λ x. x) result (Ok (batches, moves)) }
     // A fault is the text's first one.
-    ensures faulty { IfErr result (λ f. f ≢ Memory → HasMovesFault map.now headings text.now f) }
+    ensures faulty { IfErr result (λ f. f ≢ Memory → HasMovesFault states map.now headings text.now f) }
     // The first fault of a text is answered, unless memory runs out.
     ensures only_faulty { (f : ChangeFault)
-        → HasMovesFault map.now headings text.now f → Answers Memory (λ x. x) result (Err f) }
+        → HasMovesFault states map.now headings text.now f → Answers Memory (λ x. x) result (Err f) }
     // Each write is to a cell of the map.
     ensures on_map { IfOk result (λ x. AreOnMap map.now x.0) }
     // Each place is on the map, with a heading of the environment.
@@ -173,5 +182,5 @@ pub fn read_moves(
     // There is one place or none for each batch.
     ensures each { IfOk result (λ x. length x.1 ≡ length x.0) }
 {
-    read_lines(alloc, text, map, Some(headings))
+    read_lines(alloc, text, map, Some(headings), states)
 }

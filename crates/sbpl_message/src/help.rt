@@ -8,12 +8,12 @@ const VERSION: &str = "temjoask 0.1.0\n";
 
 /// How the program is called.
 const USAGE: &str = "\
-usage: temjoask plan ENV MPRIM [--changes F] [--start X,Y,T] [--goal X,Y,T] [--radius M] [--planner P] [--workers N] [--first E] [--step E] [--bound B] [--budget N] [--labels F [--labels-as V]] [--trace F] [--incumbent F]
-       temjoask check ENV MPRIM LABELS [--changes F] [--start X,Y,T] [--goal X,Y,T] [--radius M] [--planner back]
-       temjoask sweep ENV MPRIM [--radius M]
+usage: temjoask plan ENV MPRIM [--changes F] [--start X,Y,T] [--goal X,Y,T] [--radius M] [--planner P] [--workers N] [--first E] [--step E] [--bound B] [--budget N] [--states N] [--labels F [--labels-as V]] [--trace F] [--incumbent F]
+       temjoask check ENV MPRIM LABELS [--changes F] [--start X,Y,T] [--goal X,Y,T] [--radius M] [--planner back] [--states N]
+       temjoask sweep ENV MPRIM [--radius M] [--states N]
        temjoask demo SEED W H
-       temjoask nav ENV [--changes F] [--start X,Y] [--goal X,Y] [--planner P] [--workers N] [--first E] [--step E] [--bound B] [--budget N] [--labels F [--labels-as V]] [--trace F] [--incumbent F]
-       temjoask navcheck ENV LABELS [--changes F] [--start X,Y] [--goal X,Y]
+       temjoask nav ENV [--changes F] [--start X,Y] [--goal X,Y] [--planner P] [--workers N] [--first E] [--step E] [--bound B] [--budget N] [--states N] [--labels F [--labels-as V]] [--trace F] [--incumbent F]
+       temjoask navcheck ENV LABELS [--changes F] [--start X,Y] [--goal X,Y] [--states N]
        temjoask [COMMAND] --help
        temjoask --version
 ";

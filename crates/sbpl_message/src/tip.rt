@@ -20,6 +20,7 @@ const OPTIONS: &[&str] = &[
     "--step",
     "--bound",
     "--budget",
+    "--states",
     "--labels",
     "--labels-as",
     "--trace",

@@ -2,10 +2,10 @@
 
 use clap::ArgMatches;
 use sbpl_job::{
-    Command, JobFault, Setting, back_of, budget_of, form_named, milli_by, planner_of, pose_by,
-    radius_of, read_extent, read_seed, square_by, workers_of,
+    Command, JobFault, Setting, USUAL_STATES, back_of, budget_of, form_named, milli_by, planner_of,
+    pose_by, radius_of, read_extent, read_seed, square_by, states_by, with_limit, workers_of,
 };
-use std::alloc::Global;
+use std::alloc::{AllocError, Global};
 
 /// A value that can be wrong.
 #[derive(Clone, Copy)]
@@ -35,6 +35,7 @@ pub(crate) enum Value {
     Back,
     Workers,
     Budget,
+    States,
     /// The file of labels that are written.
     Labels,
     LabelsAs,
@@ -85,6 +86,7 @@ pub(crate) fn value_set(command: Command, setting: Setting) -> Value {
         Setting::Step => Value::Step,
         Setting::Bound => Value::Bound,
         Setting::Budget => Value::Budget,
+        Setting::States => Value::States,
         Setting::Labels => Value::Labels,
         Setting::LabelsAs => Value::LabelsAs,
         Setting::Trace => Value::Trace,
@@ -96,11 +98,17 @@ pub(crate) fn value_set(command: Command, setting: Setting) -> Value {
 fn values_of(command: Command) -> &'static [Value] {
     match command {
         Command::Plan => PLAN,
-        Command::Check => &[Value::Start, Value::Goal, Value::Radius, Value::Back],
-        Command::Sweep => &[Value::Radius],
+        Command::Check => &[
+            Value::Start,
+            Value::Goal,
+            Value::Radius,
+            Value::Back,
+            Value::States,
+        ],
+        Command::Sweep => &[Value::Radius, Value::States],
         Command::Demo => &[Value::Seed, Value::Width, Value::Height],
         Command::Nav => NAV,
-        Command::NavCheck => &[Value::GridStart, Value::GridGoal],
+        Command::NavCheck => &[Value::States, Value::GridStart, Value::GridGoal],
     }
 }
 
@@ -115,11 +123,13 @@ const PLAN: &[Value] = &[
     Value::Planner,
     Value::Workers,
     Value::Budget,
+    Value::States,
     Value::LabelsAs,
 ];
 
 /// The values of `nav`.
 const NAV: &[Value] = &[
+    Value::States,
     Value::GridStart,
     Value::GridGoal,
     Value::GridPlanner,
@@ -147,6 +157,7 @@ pub(crate) fn name_of(value: Value) -> &'static str {
         Value::Planner | Value::GridPlanner | Value::Back => "--planner",
         Value::Workers => "--workers",
         Value::Budget => "--budget",
+        Value::States => "--states",
         Value::Labels => "--labels",
         Value::LabelsAs => "--labels-as",
         Value::Trace => "--trace",
@@ -168,8 +179,13 @@ pub(crate) fn given<'a>(value: Value, matches: &ArgMatches<'a>) -> Option<&'a st
     matches.get_str(id_of(value))
 }
 
-/// What a value must be.
-pub(crate) fn wanted(value: Value) -> &'static str {
+/// The limit of states that a command is given, or else the usual one.
+fn limit_in(matches: &ArgMatches) -> u32 {
+    states_by(matches.get_str("states")).unwrap_or(USUAL_STATES)
+}
+
+/// What a value must be. A text that ends in a space is completed by `wanted_with`.
+fn wanted(value: Value) -> &'static str {
     match value {
         Value::Env | Value::Prims | Value::LabelsFile | Value::Changes =>
             "a file to read, whose name is not empty and does not begin with \"-\"",
@@ -177,8 +193,7 @@ pub(crate) fn wanted(value: Value) -> &'static str {
             "a file to write, whose name is not empty and does not begin with \"-\"",
         Value::Start | Value::Goal =>
             "X,Y,T: three decimals from -1000000000 to 1000000000, two in metres and the angle in radians",
-        Value::GridStart | Value::GridGoal =>
-            "X,Y: the column and the row of a cell, from 0 to 8388607",
+        Value::GridStart | Value::GridGoal => "X,Y: the column and the row of a cell, from 0 to ",
         Value::Radius => "a decimal from 0 to 1000, in metres",
         Value::First | Value::Bound => "a decimal from 1 to 100, in whole thousandths",
         Value::Step => "a decimal from 0.001 to 99, in whole thousandths",
@@ -187,10 +202,30 @@ pub(crate) fn wanted(value: Value) -> &'static str {
         Value::Back => "back",
         Value::Workers => "a whole number from 1 to 64, and goes with --planner epase",
         Value::Budget => "a whole number from 1 to 1073741824",
+        Value::States => "a whole number from 1 to 268435456",
         Value::LabelsAs => "1 or 2, and goes with --labels",
         Value::Seed => "a whole number from 0 to 2^64 - 1",
         Value::Width | Value::Height => "a whole number from 8 to 512",
     }
+}
+
+/// The limit of states that words of the spaced form give, or else the usual one.
+fn limit_of(words: &[&str]) -> u32 {
+    for i in 1..words.len() {
+        if words[i - 1] == "--states" {
+            return states_by(Some(words[i])).unwrap_or(USUAL_STATES);
+        }
+    }
+    USUAL_STATES
+}
+
+/// What a value must be that stands in words of the spaced form, with the limit of states that they give.
+pub(crate) fn wanted_with(
+    alloc: Global,
+    value: Value,
+    words: &[&str],
+) -> Result<String, AllocError> {
+    with_limit(alloc, wanted(value), limit_of(words))
 }
 
 /// Whether the workers fit the planner, where that is right.
@@ -223,7 +258,10 @@ fn is_right(alloc: Global, value: Value, matches: &ArgMatches) -> bool {
     match value {
         Value::Start | Value::Goal => !matches!(pose_by(alloc, given), Err(JobFault::Words)),
         Value::GridStart | Value::GridGoal => {
-            !matches!(square_by(alloc, given), Err(JobFault::Words))
+            !matches!(
+                square_by(alloc, given, limit_in(matches)),
+                Err(JobFault::Words)
+            )
         }
         Value::Radius => radius_of(matches).is_ok(),
         Value::First | Value::Bound => milli_by(given, 1000, 1000, 100_000).is_ok(),
@@ -233,6 +271,7 @@ fn is_right(alloc: Global, value: Value, matches: &ArgMatches) -> bool {
         Value::Back => back_of(matches).is_ok(),
         Value::Workers => are_workers_right(matches),
         Value::Budget => budget_of(matches).is_ok(),
+        Value::States => states_by(given).is_ok(),
         Value::LabelsAs => is_form_right(matches),
         Value::Seed => read_seed(given.unwrap_or("")).is_ok(),
         Value::Width | Value::Height => read_extent(given.unwrap_or("")).is_ok(),

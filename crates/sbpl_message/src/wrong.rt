@@ -6,7 +6,7 @@ ghost use Rattle.sbpl_job.specs.sbpl_lists.Messages.{IsPlainMessage};
 use crate::help::call_of;
 use crate::tip::{nearest_option, tip_on_command};
 use crate::unfit::{Unfit, first_unfit};
-use crate::value::{Value, given, name_of, same_files, wanted, wrong_value};
+use crate::value::{Value, given, name_of, same_files, wanted_with, wrong_value};
 use clap::ArgMatches;
 use sbpl_job::{Command, Message, NoMemory, command_named, line_of, plain_message, spaced_words};
 use std::alloc::{AllocError, Global};
@@ -41,17 +41,28 @@ fn one_line(alloc: Global, text: &str) -> Result<String, AllocError> {
     Ok(line)
 }
 
-/// What is wrong with a value.
-fn wrong_value_text(alloc: Global, value: Value, found: &str) -> Result<String, AllocError> {
+/// What is wrong with a value that stands in these words.
+fn wrong_value_text(
+    alloc: Global,
+    value: Value,
+    words: &[&str],
+    found: &str,
+) -> Result<String, AllocError> {
     let name = name_of(value);
-    let wanted = wanted(value);
+    let wanted = wanted_with(alloc, value, words)?;
+    let wanted = wanted.as_str();
     format!(in alloc; "{name} must be {wanted}, found \"{found}\"")
 }
 
 /// What is wrong with words that `clap` takes.
-fn wrong_in(alloc: Global, command: Command, matches: &ArgMatches) -> Result<String, AllocError> {
+fn wrong_in(
+    alloc: Global,
+    command: Command,
+    words: &[&str],
+    matches: &ArgMatches,
+) -> Result<String, AllocError> {
     if let Some(value) = wrong_value(alloc, command, matches) {
-        return wrong_value_text(alloc, value, given(value, matches).unwrap_or(""));
+        return wrong_value_text(alloc, value, words, given(value, matches).unwrap_or(""));
     }
     let Some((other, written)) = same_files(matches) else {
         return String::from_str(alloc, "the words name no job");
@@ -65,7 +76,7 @@ fn wrong_in(alloc: Global, command: Command, matches: &ArgMatches) -> Result<Str
 fn wrong_parts(alloc: Global, command: Command, words: &[&str]) -> Result<String, AllocError> {
     let line = line_of(alloc, command)?;
     match line.try_get_matches_from(words) {
-        Ok(matches) => wrong_in(alloc, command, &matches),
+        Ok(matches) => wrong_in(alloc, command, words, &matches),
         Err(error) => {
             let text = format!(in alloc; "{error}")?;
             one_line(alloc, text.as_str())
@@ -99,7 +110,7 @@ fn wrong_option(
 /// What is wrong with the words after a command, in the spaced form.
 fn wrong_after(alloc: Global, command: Command, words: &[&str]) -> Result<String, AllocError> {
     match first_unfit(command, words) {
-        Some(Unfit::Value(value, found)) => wrong_value_text(alloc, value, found),
+        Some(Unfit::Value(value, found)) => wrong_value_text(alloc, value, words, found),
         Some(Unfit::Option(word)) => wrong_option(alloc, command, word, words),
         None => wrong_parts(alloc, command, words),
     }

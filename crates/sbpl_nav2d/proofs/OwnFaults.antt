@@ -23,9 +23,9 @@ told_spares (common.Range p) q = cc
 told_spares (common.Ended p) q = cc
 told_spares (common.Trailing p) q = cc
 
-size_spares : Spares NoMemory size_format
+size_spares : (states : ℕ) → Spares NoMemory (size_format states)
 unfolding Spares size_format
-size_spares = λ _ _ place width _ height.
+size_spares states = λ _ _ place width _ height.
     let size : Size = record { width = nat_abs width; height = nat_abs height } in
     wrong_spares NoMemory _ (TooLarge place) (done size) (λ q. cc) (done_spares NoMemory size)
 
@@ -33,27 +33,27 @@ obsthresh_spares : Spares NoMemory obsthresh_format
 unfolding Spares obsthresh_format
 obsthresh_spares = λ _ _ _ _. tt
 
-grid_cell_spares : (w : List ℕ) → Spares NoMemory (grid_cell_format w)
+grid_cell_spares : (states : ℕ) (w : List ℕ) → Spares NoMemory (grid_cell_format states w)
 unfolding Spares grid_cell_format
-grid_cell_spares w = λ _ _ _ _ _ _. tt
+grid_cell_spares states w = λ _ _ _ _ _ _. tt
 
-start_spares : (size : Size) → Spares NoMemory (start_format size)
+start_spares : (states : ℕ) (size : Size) → Spares NoMemory (start_format states size)
 unfolding start_format start_grid_cell_format
-start_spares size = and_then_spares NoMemory start_grid_cell_format _ (grid_cell_spares _)
+start_spares states size = and_then_spares NoMemory (start_grid_cell_format states) _ (grid_cell_spares states _)
     (λ p. right_spares NoMemory _ (StartOff p.place) (done _) (λ q. cc) (done_spares NoMemory _))
 
-end_spares : (size : Size) → Spares NoMemory (end_format size)
+end_spares : (states : ℕ) (size : Size) → Spares NoMemory (end_format states size)
 unfolding end_format end_grid_cell_format
-end_spares size = and_then_spares NoMemory end_grid_cell_format _ (grid_cell_spares _)
+end_spares states size = and_then_spares NoMemory (end_grid_cell_format states) _ (grid_cell_spares states _)
     (λ p. right_spares NoMemory _ (EndOff p.place) (done _) (λ q. cc) (done_spares NoMemory _))
 
-numbers_spare : Spares NoMemory numbers_format
+numbers_spare : (states : ℕ) → Spares NoMemory (numbers_format states)
 unfolding numbers_format
-numbers_spare =
-    and_then_spares NoMemory size_format _ size_spares (λ size.
+numbers_spare states =
+    and_then_spares NoMemory (size_format states) _ (size_spares states) (λ size.
     and_then_spares NoMemory obsthresh_format _ obsthresh_spares (λ _.
-    and_then_spares NoMemory (start_format size) _ (start_spares size) (λ _.
-    and_then_spares NoMemory (end_format size) _ (end_spares size) (λ _. done_spares NoMemory _))))
+    and_then_spares NoMemory (start_format states size) _ (start_spares states size) (λ _.
+    and_then_spares NoMemory (end_format states size) _ (end_spares states size) (λ _. done_spares NoMemory _))))
 
 cost_spares : (cells : List ℕ) → Spares NoMemory (cost_format cells)
 unfolding Spares cost_format
@@ -63,12 +63,12 @@ grid_spares : (count : ℕ) → Spares NoMemory (grid_format count)
 unfolding Spares grid_format
 grid_spares count = λ _ _. turns_spare NoMemory count cost_format [] cost_spares
 
-environment_spares : Spares NoMemory environment_format
+environment_spares : (states : ℕ) → Spares NoMemory (environment_format states)
 unfolding Spares environment_format
-environment_spares =
-    and_then_spares NoMemory numbers_format _ numbers_spare (λ _.
+environment_spares states =
+    and_then_spares NoMemory (numbers_format states) _ (numbers_spare states) (λ _.
     and_then_spares NoMemory (grid_format _) _ (grid_spares _) (λ _. tt))
 
-pub no_memory_is_no_fault : (text : List ℕ) (f : EnvFault) → HasFault text f → f ≢ NoMemory
-no_memory_is_no_fault text f h =
-    spared NoMemory told environment_format (length text) (tokens text) f told_spares environment_spares h
+pub no_memory_is_no_fault : (states : ℕ) (text : List ℕ) (f : EnvFault) → HasFault states text f → f ≢ NoMemory
+no_memory_is_no_fault states text f h =
+    spared NoMemory told (environment_format states) (length text) (tokens text) f told_spares (environment_spares states) h

@@ -1,5 +1,5 @@
 -- The format of a grid's environment and its list of tokens say the same.
-use Rattle.std.proofs.Common.{◌≡◌, ℕ, ℤ, pos, negsuc, zero, suc, ◌*◌, ◌/◌, ◌<◌, ◌≤◌, ◌≤ℤ◌, true, false, nat_lt}
+use Rattle.std.proofs.Common.{◌≡◌, ℕ, ℤ, pos, negsuc, zero, suc, ◌-◌, ◌*◌, ◌/◌, ◌<◌, ◌≤◌, ◌≤ℤ◌, true, false, nat_lt}
 use Rattle.std.proofs.Common.{List, [], ◌∷◌, ◌++◌, length, map, codes, Ok, refl, sym, ap, subst, ◌∙◌}
 use Rattle.std.proofs.Common.{append_assoc, append-nil, arith}
 use Rattle.std.specs.Prelude.{nat_abs}
@@ -7,7 +7,7 @@ use Rattle.std.specs.List.{AllByRecursion}
 use Rattle.std.proofs.lemmas.Bool.{and_from, and_parts, ltb-false, ltb-true, le-ltb, lt-ltb}
 use Rattle.std.proofs.lemmas.Int.{ints}
 use Rattle.std.proofs.lemmas.Nat.{div-mul-add, div-add-mod', mod-mul-add, mul-add-lt}
-use Rattle.std.proofs.Math.Nat.{div-lt_iff_lt-mul, mul_comm}
+use Rattle.std.proofs.Math.Nat.{div-lt_iff_lt-mul, le_trans, mul_comm, mul-le-mul_left}
 use Rattle.sbpl_fixed.specs.Formats.{Says, turns, whole}
 use Rattle.sbpl_fixed.specs.Numbers.{whole_of}
 use Rattle.sbpl_fixed.specs.Tokens.{Piece, tokens}
@@ -61,42 +61,44 @@ says_natural low high n bytes h above below =
 
 -- ---- the size
 
-record IsSize (x : Size) : Type 0 where
-  width : (1 ≤ x.width) × (x.width ≤ 8388608)
-  height : (1 ≤ x.height) × (x.height ≤ 8388608)
-  states : x.width * x.height ≤ 8388608
+record IsSize (states : ℕ) (x : Size) : Type 0 where
+  width : (1 ≤ x.width) × (x.width ≤ states)
+  height : (1 ≤ x.height) × (x.height ≤ states)
+  few : x.width * x.height ≤ states
 
 abbrev size_words : Size → List Said
 size_words x = word (codes "discretization(cells):") ∷ number (pos x.width) ∷ number (pos x.height) ∷ []
 
-size_said : (x : Size) (ts rest : List Piece) → Says size_format ts x rest → Begins (size_words x) ts rest × IsSize x
+size_said : (states : ℕ) (x : Size) (ts rest : List Piece) → Says (size_format states) ts x rest
+    → Begins (size_words x) ts rest × IsSize states x
 unfolding size_format Says
-size_said x [] rest h = absurd h
-size_said x (t ∷ []) rest h = absurd h.2
-size_said x (t ∷ u ∷ []) rest h = absurd h.2.2
-size_said x (t ∷ u ∷ v ∷ ts) rest h =
-    let w = natural_said 1 8388608 h.2.0 u.bytes h.2.1 in
-    let r = natural_said 1 8388608 h.2.2.0 v.bytes h.2.2.1 in
+size_said states x [] rest h = absurd h
+size_said states x (t ∷ []) rest h = absurd h.2
+size_said states x (t ∷ u ∷ []) rest h = absurd h.2.2
+size_said states x (t ∷ u ∷ v ∷ ts) rest h =
+    let w = natural_said 1 states h.2.0 u.bytes h.2.1 in
+    let r = natural_said 1 states h.2.2.0 v.bytes h.2.2.1 in
     let made : Size = record { width = nat_abs h.2.0; height = nat_abs h.2.2.0 } in
     let g = unless_wrong _ _ x made ts rest h.2.2.2 in
     let begins : Begins (size_words made) (t ∷ u ∷ v ∷ ts) rest =
     (fixed_is _ t.bytes h.0 h.1, (w.value, (r.value, g.2))) in
-    let is : IsSize made = record { width = w.between; height = r.between; states = ltb-false _ _ g.0 } in
-    (subst (λ (y : Size). Begins (size_words y) (t ∷ u ∷ v ∷ ts) rest) (sym g.1) begins, subst IsSize (sym g.1) is)
+    let is : IsSize states made = record { width = w.between; height = r.between; few = ltb-false _ _ g.0 } in
+    (subst (λ (y : Size). Begins (size_words y) (t ∷ u ∷ v ∷ ts) rest) (sym g.1) begins, subst (IsSize states) (sym g.1) is)
 
-says_size : (x : Size) (ts rest : List Piece) → Begins (size_words x) ts rest → IsSize x → Says size_format ts x rest
+says_size : (states : ℕ) (x : Size) (ts rest : List Piece) → Begins (size_words x) ts rest → IsSize states x
+    → Says (size_format states) ts x rest
 unfolding size_format Says
-says_size x [] rest h k = absurd h
-says_size x (t ∷ []) rest h k = absurd h.1
-says_size x (t ∷ u ∷ []) rest h k = absurd h.1.1
-says_size x (t ∷ u ∷ v ∷ ts) rest h k =
-    let small : nat_lt 8388608 (x.width * x.height) ≡ false = le-ltb _ _ k.states in (
+says_size states x [] rest h k = absurd h
+says_size states x (t ∷ []) rest h k = absurd h.1
+says_size states x (t ∷ u ∷ []) rest h k = absurd h.1.1
+says_size states x (t ∷ u ∷ v ∷ ts) rest h k =
+    let small : nat_lt states (x.width * x.height) ≡ false = le-ltb _ _ k.few in (
       pos 0,
       is_fixed _ t.bytes h.0,
       (
         pos x.width,
-        says_natural 1 8388608 x.width u.bytes h.1.0 k.width.0 k.width.1,
-        (pos x.height, says_natural 1 8388608 x.height v.bytes h.1.1.0 k.height.0 k.height.1, rw small (refl, h.1.1.1)),
+        says_natural 1 states x.width u.bytes h.1.0 k.width.0 k.width.1,
+        (pos x.height, says_natural 1 states x.height v.bytes h.1.1.0 k.height.0 k.height.1, rw small (refl, h.1.1.1)),
       ),
     )
 
@@ -131,39 +133,40 @@ says_obsthresh n (t ∷ u ∷ ts) rest h k =
 abbrev grid_cell_words : List ℕ → GridCell → List Said
 grid_cell_words w p = word w ∷ number (pos p.x) ∷ number (pos p.y) ∷ []
 
-record IsGridCell (p : GridCell) : Type 0 where
-  x : p.x ≤ 8388607
-  y : p.y ≤ 8388607
+record IsGridCell (states : ℕ) (p : GridCell) : Type 0 where
+  x : p.x ≤ states - 1
+  y : p.y ≤ states - 1
 
-grid_cell_said : (w : List ℕ) (p : Placed GridCell) (ts rest : List Piece) → Says (grid_cell_format w) ts p rest
+grid_cell_said : (states : ℕ) (w : List ℕ) (p : Placed GridCell) (ts rest : List Piece)
+    → Says (grid_cell_format states w) ts p rest
     → Begins (grid_cell_words w p.value) ts rest
 unfolding grid_cell_format Says
-grid_cell_said w p [] rest h = absurd h
-grid_cell_said w p (t ∷ []) rest h = absurd h.2
-grid_cell_said w p (t ∷ u ∷ []) rest h = absurd h.2.2
-grid_cell_said w p (t ∷ u ∷ v ∷ ts) rest h =
-    let x = natural_said 0 8388607 h.2.0 u.bytes h.2.1 in
-    let y = natural_said 0 8388607 h.2.2.0 v.bytes h.2.2.1 in
+grid_cell_said states w p [] rest h = absurd h
+grid_cell_said states w p (t ∷ []) rest h = absurd h.2
+grid_cell_said states w p (t ∷ u ∷ []) rest h = absurd h.2.2
+grid_cell_said states w p (t ∷ u ∷ v ∷ ts) rest h =
+    let x = natural_said 0 (states - 1) h.2.0 u.bytes h.2.1 in
+    let y = natural_said 0 (states - 1) h.2.2.0 v.bytes h.2.2.1 in
     let g = h.2.2.2 in
     let is_x : nat_abs h.2.0 ≡ p.value.x = ap (λ (q : Placed GridCell). q.value.x) (sym g.0) in
     let is_y : nat_abs h.2.2.0 ≡ p.value.y = ap (λ (q : Placed GridCell). q.value.y) (sym g.0) in
     (fixed_is w t.bytes h.0 h.1, (x.value ∙ ap (λ m. Ok (pos m)) is_x, (y.value ∙ ap (λ m. Ok (pos m)) is_y, g.1)))
 
-says_grid_cell : (w : List ℕ) (p : GridCell) (ts rest : List Piece) → Begins (grid_cell_words w p) ts rest → IsGridCell p
-    → (place : ℕ) × Says (grid_cell_format w) ts (record { value = p; place = place }) rest
+says_grid_cell : (states : ℕ) (w : List ℕ) (p : GridCell) (ts rest : List Piece) → Begins (grid_cell_words w p) ts rest
+    → IsGridCell states p → (place : ℕ) × Says (grid_cell_format states w) ts (record { value = p; place = place }) rest
 unfolding grid_cell_format Says
-says_grid_cell w p [] rest h k = absurd h
-says_grid_cell w p (t ∷ []) rest h k = absurd h.1
-says_grid_cell w p (t ∷ u ∷ []) rest h k = absurd h.1.1
-says_grid_cell w p (t ∷ u ∷ v ∷ ts) rest h k = (
+says_grid_cell states w p [] rest h k = absurd h
+says_grid_cell states w p (t ∷ []) rest h k = absurd h.1
+says_grid_cell states w p (t ∷ u ∷ []) rest h k = absurd h.1.1
+says_grid_cell states w p (t ∷ u ∷ v ∷ ts) rest h k = (
   u.place,
   (
     pos 0,
     is_fixed w t.bytes h.0,
     (
       pos p.x,
-      says_natural 0 8388607 p.x u.bytes h.1.0 (omega arith) k.x,
-      (pos p.y, says_natural 0 8388607 p.y v.bytes h.1.1.0 (omega arith) k.y, (refl, h.1.1.1)),
+      says_natural 0 (states - 1) p.x u.bytes h.1.0 (omega arith) k.x,
+      (pos p.y, says_natural 0 (states - 1) p.y v.bytes h.1.1.0 (omega arith) k.y, (refl, h.1.1.1)),
     ),
   ),
 )
@@ -198,14 +201,14 @@ grid_cell_of_state size p h =
     }
 
 -- and each state is that of its cell
-module _ (size : Size) (is : IsSize size) (s : ℕ) (inside : s < size.width * size.height) where
+module _ (states : ℕ) (size : Size) (is : IsSize states size) (s : ℕ) (inside : s < size.width * size.height) where
   row_below : row_of size.width s < size.height
   row_below = quotient_below s size.height size.width is.width.0 (rw (mul_comm size.height size.width) inside)
 
   column_below : column_of size.width s < size.width
   column_below = let some = is.width.0 in omega arith
 
-  is_grid_cell : IsGridCell (grid_cell_of size s)
+  is_grid_cell : IsGridCell states (grid_cell_of size s)
   is_grid_cell = let column = column_below in let row = row_below in let width = is.width.1 in let height = is.height.1 in
       record { x = omega arith; y = omega arith }
 
@@ -216,12 +219,12 @@ module _ (size : Size) (is : IsSize size) (s : ℕ) (inside : s < size.width * s
   state_of_grid_cell : state_of size (grid_cell_of size s) ≡ s
   state_of_grid_cell = div-add-mod' s size.width
 
-start_said : (size : Size) (s : ℕ) (ts rest : List Piece) → Says (start_format size) ts s rest
+start_said : (states : ℕ) (size : Size) (s : ℕ) (ts rest : List Piece) → Says (start_format states size) ts s rest
     → Begins (spelled_state (codes "start(cells):") size.width s) ts rest × (s < size.width * size.height)
 unfolding start_format start_grid_cell_format
-start_said size s ts rest h =
+start_said states size s ts rest h =
     let a = says_parts _ _ ts rest s h in
-    let r = grid_cell_said _ a.0 ts a.1 a.2 in
+    let r = grid_cell_said states _ a.0 ts a.1 a.2 in
     let g = if_right _ _ s _ a.1 rest a.3 in
     let is = grid_cell_of_state size a.0.value g.0 in
     let at = subst (IsGridCellOf size a.0.value) (sym g.1) is in (
@@ -230,22 +233,22 @@ start_said size s ts rest h =
       at.inside,
     )
 
-says_start : (size : Size) (s : ℕ) (ts rest : List Piece)
-    → Begins (spelled_state (codes "start(cells):") size.width s) ts rest → IsSize size → s < size.width * size.height
-    → Says (start_format size) ts s rest
+says_start : (states : ℕ) (size : Size) (s : ℕ) (ts rest : List Piece)
+    → Begins (spelled_state (codes "start(cells):") size.width s) ts rest → IsSize states size
+    → s < size.width * size.height → Says (start_format states size) ts s rest
 unfolding start_format start_grid_cell_format Says
-says_start size s ts rest h is inside =
-    let a = says_grid_cell _ (grid_cell_of size s) ts rest h (is_grid_cell size is s inside) in
-    let on = grid_cell_on_map size is s inside in
-    says_both (grid_cell_format (codes "start(cells):")) _ ts rest rest
-    (record { value = grid_cell_of size s; place = a.0 }) s a.1 (rw on (sym (state_of_grid_cell size is s inside), refl))
+says_start states size s ts rest h is inside =
+    let a = says_grid_cell states _ (grid_cell_of size s) ts rest h (is_grid_cell states size is s inside) in
+    let on = grid_cell_on_map states size is s inside in
+    says_both (grid_cell_format states (codes "start(cells):")) _ ts rest rest
+    (record { value = grid_cell_of size s; place = a.0 }) s a.1 (rw on (sym (state_of_grid_cell states size is s inside), refl))
 
-end_said : (size : Size) (s : ℕ) (ts rest : List Piece) → Says (end_format size) ts s rest
+end_said : (states : ℕ) (size : Size) (s : ℕ) (ts rest : List Piece) → Says (end_format states size) ts s rest
     → Begins (spelled_state (codes "end(cells):") size.width s) ts rest × (s < size.width * size.height)
 unfolding end_format end_grid_cell_format
-end_said size s ts rest h =
+end_said states size s ts rest h =
     let a = says_parts _ _ ts rest s h in
-    let r = grid_cell_said _ a.0 ts a.1 a.2 in
+    let r = grid_cell_said states _ a.0 ts a.1 a.2 in
     let g = if_right _ _ s _ a.1 rest a.3 in
     let is = grid_cell_of_state size a.0.value g.0 in
     let at = subst (IsGridCellOf size a.0.value) (sym g.1) is in (
@@ -254,15 +257,16 @@ end_said size s ts rest h =
       at.inside,
     )
 
-says_end : (size : Size) (s : ℕ) (ts rest : List Piece)
-    → Begins (spelled_state (codes "end(cells):") size.width s) ts rest → IsSize size → s < size.width * size.height
-    → Says (end_format size) ts s rest
+says_end : (states : ℕ) (size : Size) (s : ℕ) (ts rest : List Piece)
+    → Begins (spelled_state (codes "end(cells):") size.width s) ts rest → IsSize states size
+    → s < size.width * size.height → Says (end_format states size) ts s rest
 unfolding end_format end_grid_cell_format Says
-says_end size s ts rest h is inside =
-    let a = says_grid_cell _ (grid_cell_of size s) ts rest h (is_grid_cell size is s inside) in
-    let on = grid_cell_on_map size is s inside in
-    says_both (grid_cell_format (codes "end(cells):")) _ ts rest rest (record { value = grid_cell_of size s; place = a.0 }) s a.1
-    (rw on (sym (state_of_grid_cell size is s inside), refl))
+says_end states size s ts rest h is inside =
+    let a = says_grid_cell states _ (grid_cell_of size s) ts rest h (is_grid_cell states size is s inside) in
+    let on = grid_cell_on_map states size is s inside in
+    says_both (grid_cell_format states (codes "end(cells):")) _ ts rest rest
+    (record { value = grid_cell_of size s; place = a.0 }) s a.1
+    (rw on (sym (state_of_grid_cell states size is s inside), refl))
 
 -- ---- all numbers but the costs
 
@@ -278,18 +282,19 @@ end_words e = spelled_state (codes "end(cells):") e.width e.end
 abbrev ends_words : NavEnvironment → List Said
 ends_words e = start_words e ++ end_words e
 
-numbers_said : (e : NavEnvironment) (ts rest : List Piece) → Says numbers_format ts e rest
-    → Begins (spelled_numbers e) ts rest × IsNavEnvironment e
+numbers_said : (states : ℕ) (e : NavEnvironment) (ts rest : List Piece) → states ≤ 268435456
+    → Says (numbers_format states) ts e rest
+    → Begins (spelled_numbers e) ts rest × IsNavEnvironment e × (e.width * e.height ≤ states)
 unfolding numbers_format Says
-numbers_said e ts rest h =
+numbers_said states e ts rest small h =
     let a = says_parts _ _ ts rest e h in
     let b = says_parts _ _ a.1 rest e a.3 in
     let c = says_parts _ _ b.1 rest e b.3 in
     let d = says_parts _ _ c.1 rest e c.3 in
-    let size = size_said a.0 ts a.1 a.2 in
+    let size = size_said states a.0 ts a.1 a.2 in
     let obsthresh = obsthresh_said b.0 a.1 b.1 b.2 in
-    let start = start_said a.0 c.0 b.1 c.1 c.2 in
-    let end = end_said a.0 d.0 c.1 d.1 d.2 in
+    let start = start_said states a.0 c.0 b.1 c.1 c.2 in
+    let end = end_said states a.0 d.0 c.1 d.1 d.2 in
     let made : NavEnvironment =
     record { width = a.0.width; height = a.0.height; obsthresh = b.0; start = c.0; end = d.0 } in
     let begins : Begins (spelled_numbers made) ts d.1 =
@@ -297,10 +302,10 @@ numbers_said e ts rest h =
     (begins_append (obsthresh_words b.0) (ends_words made) a.1 b.1 d.1 obsthresh.0
     (begins_append (start_words made) (end_words made) b.1 c.1 d.1 start.0 end.0)) in
     let is : IsNavEnvironment made = record {
-      width = size.1.width;
-      height = size.1.height;
+      width = (size.1.width.0, le_trans size.1.width.1 small);
+      height = (size.1.height.0, le_trans size.1.height.1 small);
       obsthresh = obsthresh.1;
-      states = size.1.states;
+      states = le_trans size.1.few small;
       start = start.1;
       end = end.1;
     } in
@@ -308,21 +313,30 @@ numbers_said e ts rest h =
       subst (λ (x : NavEnvironment). Begins (spelled_numbers x) ts rest) same
           (subst (λ m. Begins (spelled_numbers made) ts m) (sym d.3.1) begins),
       subst IsNavEnvironment same is,
+      subst (λ (x : NavEnvironment). x.width * x.height ≤ states) same size.1.few,
     )
 
-says_numbers : (e : NavEnvironment) (ts rest : List Piece) → Begins (spelled_numbers e) ts rest → IsNavEnvironment e
-    → Says numbers_format ts e rest
+-- a side of a map is not longer than all its cells
+side_le : (w h states : ℕ) → 1 ≤ h → w * h ≤ states → w ≤ states
+side_le w h states some few = let one : w * 1 ≤ w * h = mul-le-mul_left w some in omega arith
+
+says_numbers : (states : ℕ) (e : NavEnvironment) (ts rest : List Piece) → Begins (spelled_numbers e) ts rest
+    → IsNavEnvironment e → e.width * e.height ≤ states → Says (numbers_format states) ts e rest
 unfolding numbers_format Says
-says_numbers e ts rest h k =
+says_numbers states e ts rest h k few =
     let size = size_in e in
-    let is : IsSize size = record { width = k.width; height = k.height; states = k.states } in
+    let is : IsSize states size = record {
+      width = (k.width.0, side_le e.width e.height states k.height.0 few);
+      height = (k.height.0, side_le e.height e.width states k.width.0 (rw (mul_comm e.height e.width) few));
+      few = few;
+    } in
     let a = append_begins (size_words size) (obsthresh_words e.obsthresh ++ ends_words e) ts rest h in
     let b = append_begins (obsthresh_words e.obsthresh) (ends_words e) a.0 rest a.2 in
     let c = append_begins (start_words e) (end_words e) b.0 rest b.2 in
-    says_both size_format _ ts a.0 rest size e (says_size size ts a.0 a.1 is)
+    says_both (size_format states) _ ts a.0 rest size e (says_size states size ts a.0 a.1 is)
     (says_both obsthresh_format _ a.0 b.0 rest e.obsthresh e (says_obsthresh e.obsthresh a.0 b.0 b.1 k.obsthresh)
-    (says_both (start_format size) _ b.0 c.0 rest e.start e (says_start size e.start b.0 c.0 c.1 is k.start)
-    (says_both (end_format size) _ c.0 rest rest e.end e (says_end size e.end c.0 rest c.2 is k.end) (refl, refl))))
+    (says_both (start_format states size) _ b.0 c.0 rest e.start e (says_start states size e.start b.0 c.0 c.1 is k.start)
+    (says_both (end_format states size) _ c.0 rest rest e.end e (says_end states size e.end c.0 rest c.2 is k.end) (refl, refl))))
 
 -- ---- the grid
 
@@ -418,31 +432,33 @@ says_grid count cells (t ∷ ts) rest h size k = (
 
 -- ---- the whole text
 
-pub text_said : (text : List ℕ) (x : NavEnvironment × List ℕ) → StandsFor environment_format text x
-    → IsTextOf text x.0 x.1
+pub text_said : (states : ℕ) (text : List ℕ) (x : NavEnvironment × List ℕ) → states ≤ 268435456
+    → StandsFor (environment_format states) text x → IsTextOf states text x.0 x.1
 unfolding environment_format
-text_said text x h =
+text_said states text x small h =
     let a = says_parts _ _ (tokens text) h.0 x h.1 in
     let b = says_parts _ _ a.1 h.0 x a.3 in
     let z = at_end _ _ x (a.0, b.0) b.1 h.0 b.3 in
-    let p = numbers_said a.0 (tokens text) a.1 a.2 in
+    let p = numbers_said states a.0 (tokens text) a.1 small a.2 in
     let q = grid_said (a.0.width * a.0.height) b.0 a.1 b.1 b.2 in
     let all = begins_append (spelled_numbers a.0) (spelled_grid b.0) (tokens text) a.1 [] p.0
     (subst (λ m. Begins (spelled_grid b.0) a.1 m) z.1 q.0) in
-    subst (λ (y : NavEnvironment × List ℕ). IsTextOf text y.0 y.1) (sym z.0) (record {
+    subst (λ (y : NavEnvironment × List ℕ). IsTextOf states text y.0 y.1) (sym z.0) (record {
       tokens = begins_all (spelled a.0 b.0) (tokens text) all;
       environment = p.1;
+      few = p.2;
       grid = record { size = q.1; costs = q.2 };
     })
 
-pub says_text : (text : List ℕ) (x : NavEnvironment × List ℕ) → IsTextOf text x.0 x.1
-    → StandsFor environment_format text x
+pub says_text : (states : ℕ) (text : List ℕ) (x : NavEnvironment × List ℕ) → IsTextOf states text x.0 x.1
+    → StandsFor (environment_format states) text x
 unfolding environment_format Says
-says_text text x h =
+says_text states text x h =
     let a = append_begins (spelled_numbers x.0) (spelled_grid x.1) (tokens text) []
     (all_begins (spelled x.0 x.1) (tokens text) h.tokens) in (
       [],
-      says_both numbers_format _ (tokens text) a.0 [] x.0 x (says_numbers x.0 (tokens text) a.0 a.1 h.environment)
+      says_both (numbers_format states) _ (tokens text) a.0 [] x.0 x
+          (says_numbers states x.0 (tokens text) a.0 a.1 h.environment h.few)
           (says_both (grid_format (x.0.width * x.0.height)) _ a.0 [] [] x.1 x
           (says_grid (x.0.width * x.0.height) x.1 a.0 [] a.2 h.grid.size h.grid.costs) (refl, refl)),
     )

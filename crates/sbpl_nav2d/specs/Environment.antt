@@ -16,11 +16,11 @@ column_of width s = s % width
 abbrev pub row_of : (width : ℕ) → (state : ℕ) → ℕ
 row_of width s = s / width
 
--- each number lies in its range, there are at most 2 ^ 23 states, and the start and the end are states
+-- each number lies in its range, there are at most 2 ^ 28 states, and the start and the end are states
 pub record IsNavEnvironment (e : NavEnvironment) : Type 0 where
-  pub width : (1 ≤ e.width) × (e.width ≤ 8388608)
-  pub height : (1 ≤ e.height) × (e.height ≤ 8388608)
+  pub width : (1 ≤ e.width) × (e.width ≤ 268435456)
+  pub height : (1 ≤ e.height) × (e.height ≤ 268435456)
   pub obsthresh : e.obsthresh ≤ 255
-  pub states : e.width * e.height ≤ 8388608
+  pub states : e.width * e.height ≤ 268435456
   pub start : e.start < e.width * e.height
   pub end : e.end < e.width * e.height

@@ -36,19 +36,20 @@ pub record IsGridOf (e : NavEnvironment) (cells : List ℕ) : Type 0 where
   pub costs : AllByRecursion (λ c. c ≤ 255) cells
 
 -- The text stands for the environment and the grid: its tokens are those of the file, the numbers lie in their ranges,
--- there are not too many states, both cells are on the map, and the grid has the size.
-pub record IsTextOf (text : List ℕ) (e : NavEnvironment) (cells : List ℕ) : Type 0 where
+-- there are not more states than the limit, both cells are on the map, and the grid has the size.
+pub record IsTextOf (states : ℕ) (text : List ℕ) (e : NavEnvironment) (cells : List ℕ) : Type 0 where
   pub tokens : AllMean (spelled e cells) (words_of text)
   pub environment : IsNavEnvironment e
+  pub few : e.width * e.height ≤ states
   pub grid : IsGridOf e cells
 
 -- the text stands for an environment and a grid
-abbrev pub IsText : List ℕ → Type 0
-IsText text = (e : NavEnvironment) × (cells : List ℕ) × IsTextOf text e cells
+abbrev pub IsText : (states : ℕ) → List ℕ → Type 0
+IsText states text = (e : NavEnvironment) × (cells : List ℕ) × IsTextOf states text e cells
 
 -- up to the fault's offset the text is what the format calls for, and there it fails in the way that the fault names
-abbrev pub HasFault : List ℕ → EnvFault → Type 0
-HasFault text f = HasFirstFault told environment_format text f
+abbrev pub HasFault : (states : ℕ) → List ℕ → EnvFault → Type 0
+HasFault states text f = HasFirstFault told (environment_format states) text f
 
-abbrev pub IsFaulty : List ℕ → Type 0
-IsFaulty text = (f : EnvFault) × (f ≢ NoMemory) × HasFault text f
+abbrev pub IsFaulty : (states : ℕ) → List ℕ → Type 0
+IsFaulty states text = (f : EnvFault) × (f ≢ NoMemory) × HasFault states text f

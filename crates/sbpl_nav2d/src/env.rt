@@ -3,12 +3,12 @@
 use std::marker::Model;
 
 /// The numbers of an environment file of a grid. Its type keeps the ranges of the format, that `width * height` is at
-/// most 2^23, and that start and end are states. State `y * width + x` is the cell in column `x` and row `y`.
+/// most 2^28, and that start and end are states. State `y * width + x` is the cell in column `x` and row `y`.
 #[derive(Clone, Copy, PartialEq, Eq)]
 pub struct NavEnv {
-    /// Cells along x, 1..8388608.
+    /// Cells along x, 1..268435456.
     pub width: u32,
-    /// Cells along y, 1..8388608.
+    /// Cells along y, 1..268435456.
     pub height: u32,
     /// A cell of this cost or more is an obstacle.
     pub obsthresh: u8,

@@ -7,7 +7,7 @@ ghost use Rattle.sbpl_terrain.specs.sbpl_lists.Messages.{IsMessageAt};
 use sbpl_fixed::NoMemory;
 use sbpl_terrain::{
     COST_WANTED, EnvFault, HEIGHT_WANTED, Message, OBSTACLE_WANTED, Row, START_WANTED,
-    WIDTH_WANTED, count_before, message_at, wanted_at,
+    WIDTH_WANTED, count_before, message_at, wanted_at, with_limit,
 };
 use std::alloc::{AllocError, Global};
 
@@ -26,16 +26,16 @@ const ROWS: [Row; 5] = [
     Row {
         word: "start(cells):",
         values: &[
-            "x of the start must be a whole number from 0 to 8388607",
-            "y of the start must be a whole number from 0 to 8388607",
+            "x of the start must be a whole number from 0 to ",
+            "y of the start must be a whole number from 0 to ",
         ],
         next: "end(cells): must stand here",
     },
     Row {
         word: "end(cells):",
         values: &[
-            "x of the end must be a whole number from 0 to 8388607",
-            "y of the end must be a whole number from 0 to 8388607",
+            "x of the end must be a whole number from 0 to ",
+            "y of the end must be a whole number from 0 to ",
         ],
         next: "environment: must stand here",
     },
@@ -46,7 +46,7 @@ const ROWS: [Row; 5] = [
     },
 ];
 
-/// What must stand at the place of a fault, whatever the file says.
+/// What must stand at the place of a fault, whatever the file says, without the limit of states.
 fn wanted(text: &[u8], fault: &EnvFault) -> &'static str {
     match fault {
         EnvFault::Word(place)
@@ -54,7 +54,7 @@ fn wanted(text: &[u8], fault: &EnvFault) -> &'static str {
         | EnvFault::Range(place)
         | EnvFault::Ended(place) => wanted_at(&ROWS, START_WANTED, text, *place),
         EnvFault::Trailing(_) => "the file must end after the cost of the last cell",
-        EnvFault::TooLarge(_) => "width times height must be at most 8388608",
+        EnvFault::TooLarge(_) => "width times height must be at most ",
         EnvFault::StartOff(_) | EnvFault::EndOff(_) => "the cell must lie on the map",
         EnvFault::NoMemory => "there must be memory",
     }
@@ -72,29 +72,36 @@ pub fn on_grid_text(
     )
 }
 
-/// What must stand at the place of a fault.
-fn wanted_text(alloc: Global, text: &[u8], fault: &EnvFault) -> Result<String, AllocError> {
+/// What must stand at the place of a fault, where there may be this many states.
+fn wanted_text(
+    alloc: Global,
+    text: &[u8],
+    fault: &EnvFault,
+    states: u32,
+) -> Result<String, AllocError> {
     let (name, place) = match fault {
         EnvFault::StartOff(place) => ("the start", *place),
         EnvFault::EndOff(place) => ("the end", *place),
-        _ => return String::from_str(alloc, wanted(text, fault)),
+        _ => return with_limit(alloc, wanted(text, fault), states),
     };
     let width = count_before(text, place, 0);
     let height = count_before(text, place, 1);
     on_grid_text(alloc, name, width, height)
 }
 
-/// The message of a fault of the environment file of a grid: where it is, what must stand there, and what was found.
+/// The message of a fault of the environment file of a grid that was read with this limit of states: where the fault is, what must
+/// stand there, and what was found.
 pub fn grid_message(
     alloc: Global,
     name: &str,
     text: &[u8],
     fault: &EnvFault,
+    states: u32,
 ) -> Result<Message, NoMemory>
     // It has the line and the column of the fault's place, and shows the token that begins there.
     ensures message { IfOk result (λ m. IsMessageAt name.now text.now (place_of fault.now) m) }
 {
-    let wanted = wanted_text(alloc, text, fault)?;
+    let wanted = wanted_text(alloc, text, fault, states)?;
     let message = message_at(alloc, name, text, fault.place(), wanted.as_str())?;
     Ok(message)
 }

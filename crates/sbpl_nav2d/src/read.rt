@@ -17,21 +17,19 @@ use sbpl_fixed::{Placed, Reader};
 use sbpl_terrain::{EnvFault, Grid};
 use std::alloc::Global;
 
-/// The most states that a planner takes.
-const MOST_STATES: u64 = 8_388_608;
-
-/// The map's size, which must leave room for the states.
+/// The map's size, which must leave room for the states. `states` is the limit.
 #[tactic(auto, unfolding(sbpl_fixed::specs::Formats::reads, crate::specs::Format::size_format))]
-fn size(reader: &mut Reader) -> Result<Size, EnvFault>
-    ensures read { Gives NoMemory (λ x. x) result reader.new (reads told size_format reader.old) }
-    ensures width { IfOk result (λ x. (1 ≤ x.width) × (x.width ≤ 8388608)) }
-    ensures height { IfOk result (λ x. (1 ≤ x.height) × (x.height ≤ 8388608)) }
-    ensures states { IfOk result (λ x. x.width * x.height ≤ 8388608) }
+fn size(reader: &mut Reader, states: u32) -> Result<Size, EnvFault>
+    requires limit { states ≤ 268435456 }
+    ensures read { Gives NoMemory (λ x. x) result reader.new (reads told (size_format states) reader.old) }
+    ensures width { IfOk result (λ x. (1 ≤ x.width) × (x.width ≤ states)) }
+    ensures height { IfOk result (λ x. (1 ≤ x.height) × (x.height ≤ states)) }
+    ensures states { IfOk result (λ x. x.width * x.height ≤ states) }
 {
     reader.word(b"discretization(cells):")?;
-    let width = reader.natural(1, 8_388_608)?;
-    let height = reader.natural(1, 8_388_608)?;
-    if u64::from(width.value) * u64::from(height.value) > MOST_STATES {
+    let width = reader.natural(1, states)?;
+    let height = reader.natural(1, states)?;
+    if u64::from(width.value) * u64::from(height.value) > u64::from(states) {
         return Err(EnvFault::TooLarge(width.place));
     }
     Ok(Size {
@@ -51,12 +49,13 @@ fn obsthresh(reader: &mut Reader) -> Result<u8, EnvFault>
 
 /// A word, and a cell after it, with the place of its x.
 #[tactic(auto, unfolding(sbpl_fixed::specs::Formats::reads, crate::specs::Format::grid_cell_format))]
-fn grid_cell(reader: &mut Reader, word: &[u8]) -> Result<Placed<GridCell>, EnvFault>
-    ensures read { Gives NoMemory (λ x. x) result reader.new (reads told (grid_cell_format word.now) reader.old) }
+fn grid_cell(reader: &mut Reader, word: &[u8], states: u32) -> Result<Placed<GridCell>, EnvFault>
+    ensures read { Gives NoMemory (λ x. x) result reader.new (reads told (grid_cell_format states word.now) reader.old) }
 {
     reader.word(word)?;
-    let x = reader.natural(0, 8_388_607)?;
-    let y = reader.natural(0, 8_388_607)?;
+    let last = states.saturating_sub(1);
+    let x = reader.natural(0, last)?;
+    let y = reader.natural(0, last)?;
     Ok(Placed {
         value: GridCell {
             x: x.value,
@@ -75,7 +74,7 @@ fn is_on_map(size: &Size, p: &GridCell) -> bool
 
 /// The state of a cell on the map.
 fn state_of(size: &Size, p: &GridCell) -> u32
-    requires states { size.now.width * size.now.height ≤ 8388608 }
+    requires states { size.now.width * size.now.height ≤ 268435456 }
     requires on_map { is_on_map size.now p.now ≡ true }
     ensures state { result ≡ state_of size.now p.now }
     ensures inside { result < size.now.width * size.now.height }
@@ -85,20 +84,20 @@ fn state_of(size: &Size, p: &GridCell) -> u32
 
 /// The start's word and cell.
 #[tactic(auto, unfolding(crate::specs::Format::start_grid_cell_format))]
-fn start_grid_cell(reader: &mut Reader) -> Result<Placed<GridCell>, EnvFault>
-    ensures read { Gives NoMemory (λ x. x) result reader.new (reads told start_grid_cell_format reader.old) }
+fn start_grid_cell(reader: &mut Reader, states: u32) -> Result<Placed<GridCell>, EnvFault>
+    ensures read { Gives NoMemory (λ x. x) result reader.new (reads told (start_grid_cell_format states) reader.old) }
 {
-    grid_cell(reader, b"start(cells):")
+    grid_cell(reader, b"start(cells):", states)
 }
 
 /// The start, which must be on the map.
 #[tactic(auto, using(sbpl_fixed::specs::Parts::reading), unfolding(sbpl_fixed::specs::Formats::reads, crate::specs::Format::start_format))]
-fn start(reader: &mut Reader, size: &Size) -> Result<u32, EnvFault>
-    requires states { size.now.width * size.now.height ≤ 8388608 }
-    ensures read { Gives NoMemory (λ x. x) result reader.new (reads told (start_format size.now) reader.old) }
+fn start(reader: &mut Reader, size: &Size, states: u32) -> Result<u32, EnvFault>
+    requires states { size.now.width * size.now.height ≤ 268435456 }
+    ensures read { Gives NoMemory (λ x. x) result reader.new (reads told (start_format states size.now) reader.old) }
     ensures inside { IfOk result (λ s. s < size.now.width * size.now.height) }
 {
-    let grid_cell = start_grid_cell(reader)?;
+    let grid_cell = start_grid_cell(reader, states)?;
     if !is_on_map(size, &grid_cell.value) {
         return Err(EnvFault::StartOff(grid_cell.place));
     }
@@ -107,20 +106,20 @@ fn start(reader: &mut Reader, size: &Size) -> Result<u32, EnvFault>
 
 /// The end's word and cell.
 #[tactic(auto, unfolding(crate::specs::Format::end_grid_cell_format))]
-fn end_grid_cell(reader: &mut Reader) -> Result<Placed<GridCell>, EnvFault>
-    ensures read { Gives NoMemory (λ x. x) result reader.new (reads told end_grid_cell_format reader.old) }
+fn end_grid_cell(reader: &mut Reader, states: u32) -> Result<Placed<GridCell>, EnvFault>
+    ensures read { Gives NoMemory (λ x. x) result reader.new (reads told (end_grid_cell_format states) reader.old) }
 {
-    grid_cell(reader, b"end(cells):")
+    grid_cell(reader, b"end(cells):", states)
 }
 
 /// The end, which must be on the map.
 #[tactic(auto, using(sbpl_fixed::specs::Parts::reading), unfolding(sbpl_fixed::specs::Formats::reads, crate::specs::Format::end_format))]
-fn end(reader: &mut Reader, size: &Size) -> Result<u32, EnvFault>
-    requires states { size.now.width * size.now.height ≤ 8388608 }
-    ensures read { Gives NoMemory (λ x. x) result reader.new (reads told (end_format size.now) reader.old) }
+fn end(reader: &mut Reader, size: &Size, states: u32) -> Result<u32, EnvFault>
+    requires states { size.now.width * size.now.height ≤ 268435456 }
+    ensures read { Gives NoMemory (λ x. x) result reader.new (reads told (end_format states size.now) reader.old) }
     ensures inside { IfOk result (λ s. s < size.now.width * size.now.height) }
 {
-    let grid_cell = end_grid_cell(reader)?;
+    let grid_cell = end_grid_cell(reader, states)?;
     if !is_on_map(size, &grid_cell.value) {
         return Err(EnvFault::EndOff(grid_cell.place));
     }
@@ -129,13 +128,14 @@ fn end(reader: &mut Reader, size: &Size) -> Result<u32, EnvFault>
 
 /// All numbers but the costs.
 #[tactic(auto, using(sbpl_fixed::specs::Parts::reading), unfolding(sbpl_fixed::specs::Formats::reads, crate::specs::Format::numbers_format))]
-fn numbers(reader: &mut Reader) -> Result<NavEnv, EnvFault>
-    ensures read { Gives NoMemory (λ x. x) result reader.new (reads told numbers_format reader.old) }
+fn numbers(reader: &mut Reader, states: u32) -> Result<NavEnv, EnvFault>
+    requires limit { states ≤ 268435456 }
+    ensures read { Gives NoMemory (λ x. x) result reader.new (reads told (numbers_format states) reader.old) }
 {
-    let size = size(reader)?;
+    let size = size(reader, states)?;
     let obsthresh = obsthresh(reader)?;
-    let start = start(reader, &size)?;
-    let end = end(reader, &size)?;
+    let start = start(reader, &size, states)?;
+    let end = end(reader, &size, states)?;
     Ok(NavEnv {
         width: size.width,
         height: size.height,
@@ -161,32 +161,34 @@ fn costs(alloc: Global, reader: &mut Reader, count: u32) -> Result<Vec<u8>, EnvF
 
 /// The whole file.
 #[tactic(auto, using(sbpl_fixed::specs::Parts::reading), unfolding(sbpl_fixed::specs::Formats::reads, crate::specs::Format::environment_format))]
-fn environment(alloc: Global, reader: &mut Reader) -> Result<(NavEnv, Grid), EnvFault>
-    ensures read { Gives NoMemory (λ x. x) result reader.new (reads told environment_format reader.old) }
+fn environment(alloc: Global, reader: &mut Reader, states: u32) -> Result<(NavEnv, Grid), EnvFault>
+    requires limit { states ≤ 268435456 }
+    ensures read { Gives NoMemory (λ x. x) result reader.new (reads told (environment_format states) reader.old) }
 {
-    let env = numbers(reader)?;
+    let env = numbers(reader, states)?;
     let costs = costs(alloc, reader, env.width * env.height)?;
     reader.end()?;
     Ok((env, Grid::of(costs)))
 }
 
-/// Reads an environment file of a grid: `discretization(cells):` with width and height, `obsthresh:`, `start(cells):`
-/// and `end(cells):` with x and y, `environment:` and the costs row by row, separated by any blanks; a number may have
-/// a sign and leading zeros. The ranges are those of `NavEnv`. A fault is the first one in reading order, with its
-/// offset: `TooLarge` comes directly after the height, `StartOff` and `EndOff` directly after their y. Only the costs
-/// take memory.
+/// Reads an environment file of a grid: `discretization(cells):` with width and height, `obsthresh:`, `start(cells):` and
+/// `end(cells):` with x and y, `environment:` and the costs row by row, separated by any blanks; a number may have a sign and
+/// leading zeros. There may be at most `states` states. The other ranges are those of `NavEnv`. A fault is the first one in
+/// reading order, with its offset: `TooLarge` comes directly after the height, `StartOff` and `EndOff` directly after their
+/// y. Only the costs take memory.
 #[tactic(auto, using(sbpl_fixed::proofs::Meaning::answering))]
-pub fn read_nav(alloc: Global, text: &[u8]) -> Result<(NavEnv, Grid), EnvFault>
+pub fn read_nav(alloc: Global, text: &[u8], states: u32) -> Result<(NavEnv, Grid), EnvFault>
+    requires limit { states ≤ 268435456 }
     // What is read is what the text stands for.
-    ensures found { IfOk result (λ x. IsTextOf text.now x.0 x.1) }
+    ensures found { IfOk result (λ x. IsTextOf states text.now x.0 x.1) }
     // What a text stands for is read, unless memory runs out.
     ensures only { (x : NavEnvironment × List ℕ)
-        → IsTextOf text.now x.0 x.1 → Answers NoMemory (λ y. y) result (Ok x) }
+        → IsTextOf states text.now x.0 x.1 → Answers NoMemory (λ y. y) result (Ok x) }
     // A fault is the text's first one.
-    ensures faulty { IfErr result (λ f. f ≢ NoMemory → HasFault text.now f) }
+    ensures faulty { IfErr result (λ f. f ≢ NoMemory → HasFault states text.now f) }
     // The first fault of a text is answered, unless memory runs out.
     ensures only_faulty { (f : EnvFault)
-        → HasFault text.now f → Answers NoMemory (λ y. y) result (Err f) }
+        → HasFault states text.now f → Answers NoMemory (λ y. y) result (Err f) }
 {
-    environment(alloc, &mut Reader::new(text))
+    environment(alloc, &mut Reader::new(text), states)
 }

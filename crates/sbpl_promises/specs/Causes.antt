@@ -90,8 +90,8 @@ pub record ReadsWorld (held : Told) (from : Sources) (w : World) : Type 0 where
   pub cheap : NoneTooDear w.env w.prims
 
 -- what the change file of a job is read for in a world, under a planner with which the robot moves or not
-abbrev pub scope_of : (moving : Bool) → World → Scope
-scope_of moving w = scope_for moving w.env w.map
+abbrev pub scope_of : (states : ℕ) → (moving : Bool) → World → Scope
+scope_of states moving w = scope_for states moving w.env w.map
 
 -- the change file stands for map updates; where there is none, there are no batches
 abbrev pub ReadsUpdates : Told → Option (List ℕ) → Scope → Updates → Type 0
@@ -150,7 +150,7 @@ pub record AreDemonstrated (job : DemoJob) (world : World) (batches : List (List
 pub record IsFaultyEnvironment (held : Told) (from : Sources) (f : EnvFault) : Type 0 where
   pub text : List ℕ
   pub read : IsReadText (held from.env) text
-  pub faulty : HasEnvironmentFault text f
+  pub faulty : HasEnvironmentFault from.states text f
 
 -- it stands for an environment, and this end that the words give is off its map
 pub record IsEndOff (held : Told) (from : Sources) (end : PathEnd) : Type 0 where
@@ -267,7 +267,7 @@ lattice_files from moving = record {
   names = IsSource from;
   stand_for = λ held w. ReadsWorld held from w;
   refused = λ held Failed r. IsCause held Failed from r;
-  scope = scope_of moving;
+  scope = scope_of from.states moving;
 }
 
 -- the files of the lattice of a plan, and of a check
@@ -289,7 +289,7 @@ pub record ReadsGrid (held : Told) (from : GridSources) (w : GridWorld) : Type 0
 pub record IsFaultyGrid (held : Told) (from : GridSources) (f : EnvFault) : Type 0 where
   pub text : List ℕ
   pub read : IsReadText (held from.env) text
-  pub faulty : HasGridFault text f
+  pub faulty : HasGridFault from.states text f
 
 -- it stands for an environment, and this end that the words give is off its map
 pub record IsGridEndOff (held : Told) (from : GridSources) (end : PathEnd) : Type 0 where
@@ -306,8 +306,8 @@ IsGridCause held Failed from (refusal.Length input.Environment) = IsTooLong (hel
 IsGridCause held Failed from _ = ⊥
 
 -- for what the change file of a grid is read
-abbrev pub grid_scope : GridWorld → Scope
-grid_scope w = still_scope w.map
+abbrev pub grid_scope : (states : ℕ) → GridWorld → Scope
+grid_scope states w = still_scope states w.map
 
 -- the file of a grid
 abbrev pub grid_files : GridSources → WorldFiles GridWorld
@@ -317,7 +317,7 @@ grid_files from = record {
   names = λ name. name ≡ from.env;
   stand_for = λ held w. ReadsGrid held from w;
   refused = λ held Failed r. IsGridCause held Failed from r;
-  scope = grid_scope;
+  scope = grid_scope from.states;
 }
 
 -- why a job is refused: for the files of its world, for its change file, or for its file of labels
@@ -377,17 +377,17 @@ pub record IsOffStop {P : Type 0} (IsOn : P → Type 0) (start goal : Option P) 
   pub off : IsFirstOff IsOn start goal end
   pub refused : IsEndRefused end s
 
--- why the text of the environment file of a grid, of this name, was refused, and what is told of that
-abbrev pub IsGridRefused : (name text : List ℕ) → JobStop → Type 0
-IsGridRefused name text (stop.Refused (refusal.Grid f) m) = HasGridFault text f × IsMessageAt name text (env_faults.place_of f) m
-IsGridRefused name text (stop.Refused _ m) = ⊥
-IsGridRefused name text stop.NoMemory = Unit {0}
+-- why the text of the environment file of a grid, of this name, was refused under a limit of states, and what is told of that
+abbrev pub IsGridRefused : (states : ℕ) → (name text : List ℕ) → JobStop → Type 0
+IsGridRefused states name text (stop.Refused (refusal.Grid f) m) = HasGridFault states text f × IsMessageAt name text (env_faults.place_of f) m
+IsGridRefused states name text (stop.Refused _ m) = ⊥
+IsGridRefused states name text stop.NoMemory = Unit {0}
 
--- why the text of an environment file was refused, and what is told of that
-abbrev pub IsEnvironmentRefused : (name text : List ℕ) → JobStop → Type 0
-IsEnvironmentRefused name text (stop.Refused (refusal.Environment f) m) = HasEnvironmentFault text f × IsMessageAt name text (env_faults.place_of f) m
-IsEnvironmentRefused name text (stop.Refused _ m) = ⊥
-IsEnvironmentRefused name text stop.NoMemory = Unit {0}
+-- why the text of an environment file was refused under a limit of states, and what is told of that
+abbrev pub IsEnvironmentRefused : (states : ℕ) → (name text : List ℕ) → JobStop → Type 0
+IsEnvironmentRefused states name text (stop.Refused (refusal.Environment f) m) = HasEnvironmentFault states text f × IsMessageAt name text (env_faults.place_of f) m
+IsEnvironmentRefused states name text (stop.Refused _ m) = ⊥
+IsEnvironmentRefused states name text stop.NoMemory = Unit {0}
 
 -- why the text of a primitive file was refused, and what is told of that
 abbrev pub IsPrimitivesRefused : Environment → (name text : List ℕ) → JobStop → Type 0

@@ -25,20 +25,20 @@ use Rattle.sbpl_report.specs.sbpl_job.declared.job.Sources.{Sources}
 -- and where words give a start or a goal that is off an environment's map, one of them is the first, and there is neither.
 pub record TextsAreClear : Type 0 where
   pub environment : (from : Sources) (text : List ℕ) (e d : Environment) (cells others : List ℕ) → IsEnvironmentFor from text e cells → IsEnvironmentFor from text d others → (e ≡ d) × (cells ≡ others)
-  pub environment_fault : (from : Sources) (text : List ℕ) (e : Environment) (cells : List ℕ) (f : EnvFault) → IsEnvironmentFor from text e cells → HasEnvironmentFault text f → ⊥
+  pub environment_fault : (from : Sources) (text : List ℕ) (e : Environment) (cells : List ℕ) (f : EnvFault) → IsEnvironmentFor from text e cells → HasEnvironmentFault from.states text f → ⊥
   pub end_off : (from : Sources) (text : List ℕ) (e : Environment) (cells : List ℕ) (end : PathEnd) → IsEnvironmentFor from text e cells → HasEndOff from text end → ⊥
-  pub end_fault : (from : Sources) (text : List ℕ) (end : PathEnd) (f : EnvFault) → HasEndOff from text end → HasEnvironmentFault text f → ⊥
+  pub end_fault : (from : Sources) (text : List ℕ) (end : PathEnd) (f : EnvFault) → HasEndOff from text end → HasEnvironmentFault from.states text f → ⊥
   pub one_end : (from : Sources) (text : List ℕ) (end other : PathEnd) → HasEndOff from text end → HasEndOff from text other → end ≡ other
-  pub one_environment_fault : (text : List ℕ) (f g : EnvFault) → HasEnvironmentFault text f → HasEnvironmentFault text g → f ≡ g
+  pub one_environment_fault : (states : ℕ) (text : List ℕ) (f g : EnvFault) → HasEnvironmentFault states text f → HasEnvironmentFault states text g → f ≡ g
   pub primitives : (text : List ℕ) (e : Environment) (ps qs : Primitives) → IsPrimitiveText e text ps → IsPrimitiveText e text qs → ps ≡ qs
   pub primitive_fault : (text : List ℕ) (e : Environment) (ps : Primitives) (f : PrimFault) → IsPrimitiveText e text ps → HasPrimitiveFault e text f → ⊥
   pub one_primitive_fault : (text : List ℕ) (e : Environment) (f g : PrimFault) → HasPrimitiveFault e text f → HasPrimitiveFault e text g → f ≡ g
   pub grid : (from : GridSources) (text : List ℕ) (e d : NavEnvironment) (cells others : List ℕ) → IsGridFor from text e cells → IsGridFor from text d others → (e ≡ d) × (cells ≡ others)
-  pub grid_fault : (from : GridSources) (text : List ℕ) (e : NavEnvironment) (cells : List ℕ) (f : EnvFault) → IsGridFor from text e cells → HasGridFault text f → ⊥
+  pub grid_fault : (from : GridSources) (text : List ℕ) (e : NavEnvironment) (cells : List ℕ) (f : EnvFault) → IsGridFor from text e cells → HasGridFault from.states text f → ⊥
   pub grid_end_off : (from : GridSources) (text : List ℕ) (e : NavEnvironment) (cells : List ℕ) (end : PathEnd) → IsGridFor from text e cells → HasGridEndOff from text end → ⊥
-  pub grid_end_fault : (from : GridSources) (text : List ℕ) (end : PathEnd) (f : EnvFault) → HasGridEndOff from text end → HasGridFault text f → ⊥
+  pub grid_end_fault : (from : GridSources) (text : List ℕ) (end : PathEnd) (f : EnvFault) → HasGridEndOff from text end → HasGridFault from.states text f → ⊥
   pub one_grid_end : (from : GridSources) (text : List ℕ) (end other : PathEnd) → HasGridEndOff from text end → HasGridEndOff from text other → end ≡ other
-  pub one_grid_fault : (text : List ℕ) (f g : EnvFault) → HasGridFault text f → HasGridFault text g → f ≡ g
+  pub one_grid_fault : (states : ℕ) (text : List ℕ) (f g : EnvFault) → HasGridFault states text f → HasGridFault states text g → f ≡ g
   pub changes : (s : Scope) (text : List ℕ) (c d : Updates) → IsChangeText s text c → IsChangeText s text d → c ≡ d
   pub change_fault : (s : Scope) (text : List ℕ) (c : Updates) (f : ChangeFault) → IsChangeText s text c → HasChangeFault s text f → ⊥
   pub one_change_fault : (s : Scope) (text : List ℕ) (f g : ChangeFault) → HasChangeFault s text f → HasChangeFault s text g → f ≡ g

@@ -2,6 +2,7 @@
 use Rattle.std.specs.Prelude.{◌≡◌, ◌==◌, ◌&&◌, ◌||◌, ℕ, Bool, true, false, List, [], Option, Some, None, codes}
 use Rattle.sbpl_report.specs.sbpl_cfg.Environment.{Environment}
 use Rattle.sbpl_report.specs.sbpl_cfg.Faults as env_faults
+use Rattle.sbpl_report.specs.sbpl_cfg.declared.fault.EnvFault.{EnvFault}
 use Rattle.sbpl_report.specs.sbpl_mprim.Faults as prim_faults
 use Rattle.sbpl_report.specs.sbpl_mprim.declared.fault.PrimFault.{PrimFault}
 use Rattle.sbpl_report.specs.sbpl_map.Faults as change_faults
@@ -57,6 +58,13 @@ pub record IsOnLine (held : Told) (name : List ℕ) (f : ChangeFault) (m : List 
   pub first : HasChangeFault scope text f
   pub message : IsMessageOnLine name (change_faults.line_of f) m
 
+-- the text of an environment file, of a lattice or of a grid, has this first fault, under some limit of states
+abbrev pub HasSomeEnvironmentFault : List ℕ → EnvFault → Type 0
+HasSomeEnvironmentFault text f = (states : ℕ) × HasEnvironmentFault states text f
+
+abbrev pub HasSomeGridFault : List ℕ → EnvFault → Type 0
+HasSomeGridFault text f = (states : ℕ) × HasGridFault states text f
+
 -- the text of a primitive file has this first fault, for some environment
 abbrev pub HasSomePrimitiveFault : List ℕ → PrimFault → Type 0
 HasSomePrimitiveFault text f = (e : Environment) × HasPrimitiveFault e text f
@@ -64,8 +72,8 @@ HasSomePrimitiveFault text f = (e : Environment) × HasPrimitiveFault e text f
 -- What is told of a refusal, where files have these names: the place of the fault in its file, and what stands there; or which file it is
 -- on, or that it is on the words. Of a file that is too long nothing is told but its line in the report.
 abbrev pub Explains : Told → (Input → List ℕ) → Refusal → List ℕ → Type 0
-Explains held names (refusal.Environment f) m = IsOnFault HasEnvironmentFault env_faults.place_of held (names input.Environment) f m
-Explains held names (refusal.Grid f) m = IsOnFault HasGridFault env_faults.place_of held (names input.Environment) f m
+Explains held names (refusal.Environment f) m = IsOnFault HasSomeEnvironmentFault env_faults.place_of held (names input.Environment) f m
+Explains held names (refusal.Grid f) m = IsOnFault HasSomeGridFault env_faults.place_of held (names input.Environment) f m
 Explains held names (refusal.OffMap end) m = IsPlainMessage program m
 Explains held names (refusal.Primitives f) m = IsOnFault HasSomePrimitiveFault prim_faults.place_of held (names input.Primitives) f m
 Explains held names (refusal.TooWide i) m = IsPlainMessage (names input.Primitives) m

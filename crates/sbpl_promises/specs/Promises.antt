@@ -235,7 +235,7 @@ TellsTooMuch held = (text : List ℕ) × (held ≡ Some text) × (2 ^ 30 < lengt
 
 -- the desk tells that the environment file has this first fault
 abbrev pub TellsEnvironmentFault : Told → Sources → EnvFault → Type 0
-TellsEnvironmentFault held from f = (text : List ℕ) × Tells (held from.env) text × HasEnvironmentFault text f
+TellsEnvironmentFault held from f = (text : List ℕ) × Tells (held from.env) text × HasEnvironmentFault from.states text f
 
 -- the desk tells that the environment file, with the start and the goal of the words, stands for this environment
 abbrev pub TellsEnvironment : Told → Sources → Environment → Type 0
@@ -255,7 +255,7 @@ TellsPrimitives held from e ps = (text : List ℕ) × Tells (held from.prims) te
 
 -- the desk tells that the environment file gives a change file this scope, where the robot moves or not
 abbrev pub TellsScope : Told → Sources → (moving : Bool) → Scope → Type 0
-TellsScope held from moving s = (text : List ℕ) × (e : Environment) × (cells : List ℕ) × Tells (held from.env) text × IsEnvironmentFor from text e cells × (s ≡ scope_for moving e (record { width = e.width; height = e.height; costs = cells }))
+TellsScope held from moving s = (text : List ℕ) × (e : Environment) × (cells : List ℕ) × Tells (held from.env) text × IsEnvironmentFor from text e cells × (s ≡ scope_for from.states moving e (record { width = e.width; height = e.height; costs = cells }))
 
 -- the desk tells that the change file has this first fault
 abbrev pub TellsChangeFault : Told → Option (List ℕ) → Scope → ChangeFault → Type 0
@@ -307,7 +307,7 @@ IsOnGrid named from = AtJob named (λ j. grid_of j ≡ Some from)
 
 -- the desk tells that the environment file of a grid has this first fault
 abbrev pub TellsGridFault : Told → GridSources → EnvFault → Type 0
-TellsGridFault held from f = (text : List ℕ) × Tells (held from.env) text × HasGridFault text f
+TellsGridFault held from f = (text : List ℕ) × Tells (held from.env) text × HasGridFault from.states text f
 
 -- the desk tells that it stands for an environment, and that this end that the words give is off its map
 abbrev pub TellsGridEndOff : Told → GridSources → PathEnd → Type 0

@@ -53,17 +53,17 @@ pub record RunPromises (named : Option Job) (before after : DeskState) (old new 
   pub grid_long : (from : GridSources) → IsOnGrid named from → TellsTooMuch (before.held from.env) → IsOrFailed 8 status
   pub grid_end_off : (from : GridSources) (end : PathEnd) → IsOnGrid named from → TellsGridEndOff before.held from end → IsOrFailed 2 status
   pub grid_changes_long : (job : Job) (from : GridSources) (w : GridWorld) (name : List ℕ) → named ≡ Some job → grid_of job ≡ Some from → TellsGrid before.held from w → changes_of job ≡ Some name → TellsTooMuch (before.held name) → IsOrFailed 8 status
-  pub grid_changes_faulty : (job : Job) (from : GridSources) (w : GridWorld) (f : ChangeFault) → named ≡ Some job → grid_of job ≡ Some from → TellsGrid before.held from w → TellsChangeFault before.held (changes_of job) (grid_scope w) f → IsOrFailed 5 status
+  pub grid_changes_faulty : (job : Job) (from : GridSources) (w : GridWorld) (f : ChangeFault) → named ≡ Some job → grid_of job ≡ Some from → TellsGrid before.held from w → TellsChangeFault before.held (changes_of job) (grid_scope from.states w) f → IsOrFailed 5 status
   -- Good words and good files are served, unless the desk fails or memory runs out.
   pub complete : (job : Job) (from : Sources) (s : Scope) (c : Updates) → named ≡ Some job → sources_of job ≡ Some from → AreGood before.held from (moves_in job) s → TellsUpdates before.held (changes_of job) s c → IsNoCheck job → IsOrFailed 0 status
-  pub grid_complete : (job : Job) (from : GridSources) (w : GridWorld) (c : Updates) → named ≡ Some job → grid_of job ≡ Some from → TellsGrid before.held from w → TellsUpdates before.held (changes_of job) (grid_scope w) c → IsNoCheck job → IsOrFailed 0 status
+  pub grid_complete : (job : Job) (from : GridSources) (w : GridWorld) (c : Updates) → named ≡ Some job → grid_of job ≡ Some from → TellsGrid before.held from w → TellsUpdates before.held (changes_of job) (grid_scope from.states w) c → IsNoCheck job → IsOrFailed 0 status
   pub demonstrated : (d : DemoJob) → named ≡ Some (Jobs.Demo d) → IsOrUnwritten 0 status
   -- The job `check` ends as the labels do in the world that the files stand for, unless the desk fails or memory runs out.
-  pub checked : (j : CheckJob) (w : World) (c : Updates) (text : List ℕ) (goals : ℕ → ℕ) (os : List Outcome) (end : Option SectionStop) → named ≡ Some (Jobs.Check j) → TellsWorld before.held j.sources w → TellsUpdates before.held j.changes (scope_of j.back w) c → Tells (before.held j.labels) text → IsCheckedIn IsHolding (searched_on lattice_site j.back) w c text goals os end → end ≢ Some Stops.NoMemory → IsOrFailed (checked_status end) status
-  pub labels_long : (j : CheckJob) (w : World) (c : Updates) → named ≡ Some (Jobs.Check j) → TellsWorld before.held j.sources w → TellsUpdates before.held j.changes (scope_of j.back w) c → TellsTooMuch (before.held j.labels) → IsOrFailed 8 status
+  pub checked : (j : CheckJob) (w : World) (c : Updates) (text : List ℕ) (goals : ℕ → ℕ) (os : List Outcome) (end : Option SectionStop) → named ≡ Some (Jobs.Check j) → TellsWorld before.held j.sources w → TellsUpdates before.held j.changes (scope_of j.sources.states j.back w) c → Tells (before.held j.labels) text → IsCheckedIn IsHolding (searched_on lattice_site j.back) w c text goals os end → end ≢ Some Stops.NoMemory → IsOrFailed (checked_status end) status
+  pub labels_long : (j : CheckJob) (w : World) (c : Updates) → named ≡ Some (Jobs.Check j) → TellsWorld before.held j.sources w → TellsUpdates before.held j.changes (scope_of j.sources.states j.back w) c → TellsTooMuch (before.held j.labels) → IsOrFailed 8 status
   -- and `navcheck` likewise.
-  pub grid_checked : (j : NavCheckJob) (w : GridWorld) (c : Updates) (text : List ℕ) (goals : ℕ → ℕ) (os : List Outcome) (end : Option SectionStop) → named ≡ Some (Jobs.NavCheck j) → TellsGrid before.held j.sources w → TellsUpdates before.held j.changes (grid_scope w) c → Tells (before.held j.labels) text → IsCheckedIn IsHolding grid_site w c text goals os end → end ≢ Some Stops.NoMemory → IsOrFailed (checked_status end) status
-  pub grid_labels_long : (j : NavCheckJob) (w : GridWorld) (c : Updates) → named ≡ Some (Jobs.NavCheck j) → TellsGrid before.held j.sources w → TellsUpdates before.held j.changes (grid_scope w) c → TellsTooMuch (before.held j.labels) → IsOrFailed 8 status
+  pub grid_checked : (j : NavCheckJob) (w : GridWorld) (c : Updates) (text : List ℕ) (goals : ℕ → ℕ) (os : List Outcome) (end : Option SectionStop) → named ≡ Some (Jobs.NavCheck j) → TellsGrid before.held j.sources w → TellsUpdates before.held j.changes (grid_scope j.sources.states w) c → Tells (before.held j.labels) text → IsCheckedIn IsHolding grid_site w c text goals os end → end ≢ Some Stops.NoMemory → IsOrFailed (checked_status end) status
+  pub grid_labels_long : (j : NavCheckJob) (w : GridWorld) (c : Updates) → named ≡ Some (Jobs.NavCheck j) → TellsGrid before.held j.sources w → TellsUpdates before.held j.changes (grid_scope j.sources.states w) c → TellsTooMuch (before.held j.labels) → IsOrFailed 8 status
   -- Where no read or write failed and memory did not run out, the words and the files call for something, so the next clause never
   -- stands empty. Plans by a planner whose passes are not determined are not called for.
   pub called : (job : Job) → named ≡ Some job → IsDeterminedJob job → IsNoFailure status → (whole : Intent) × CallsFor before.held old job whole

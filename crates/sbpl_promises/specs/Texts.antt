@@ -22,13 +22,13 @@ use Rattle.sbpl_report.specs.sbpl_mprim.Text as primitives
 use Rattle.sbpl_nav2d.specs.Environment.{NavEnvironment}
 use Rattle.sbpl_nav2d.specs.Text as grids
 
--- the text of an environment file stands for an environment and the costs of its cells
-abbrev pub IsEnvironmentText : List ℕ → Environment → List ℕ → Type 0
-IsEnvironmentText text e cells = environments.IsTextOf text e cells
+-- the text of an environment file stands for an environment, with at most this many states, and the costs of its cells
+abbrev pub IsEnvironmentText : (states : ℕ) → List ℕ → Environment → List ℕ → Type 0
+IsEnvironmentText states text e cells = environments.IsTextOf states text e cells
 
--- the first fault of the text of an environment file
-abbrev pub HasEnvironmentFault : List ℕ → EnvFault → Type 0
-HasEnvironmentFault text f = environments.HasFault text f
+-- the first fault of the text of an environment file, under this limit of states
+abbrev pub HasEnvironmentFault : (states : ℕ) → List ℕ → EnvFault → Type 0
+HasEnvironmentFault states text f = environments.HasFault states text f
 
 -- the text of a primitive file stands for primitives, for this environment
 pub record IsPrimitiveText (e : Environment) (text : List ℕ) (ps : Primitives) : Type 0 where
@@ -40,13 +40,12 @@ pub record IsPrimitiveText (e : Environment) (text : List ℕ) (ps : Primitives)
 abbrev pub HasPrimitiveFault : Environment → List ℕ → PrimFault → Type 0
 HasPrimitiveFault e text f = primitives.HasFault e.cell e.headings text f
 
--- the text of the environment file of a grid stands for an environment and the costs of its cells
-abbrev pub IsGridText : List ℕ → NavEnvironment → List ℕ → Type 0
-IsGridText text e cells = grids.IsTextOf text e cells
+-- the same of the environment file of a grid
+abbrev pub IsGridText : (states : ℕ) → List ℕ → NavEnvironment → List ℕ → Type 0
+IsGridText states text e cells = grids.IsTextOf states text e cells
 
--- the first fault of the text of the environment file of a grid
-abbrev pub HasGridFault : List ℕ → EnvFault → Type 0
-HasGridFault text f = grids.HasFault text f
+abbrev pub HasGridFault : (states : ℕ) → List ℕ → EnvFault → Type 0
+HasGridFault states text f = grids.HasFault states text f
 
 -- ---- the start and the goal, where words give them
 
@@ -71,11 +70,11 @@ posed from e = record e { start = unwrap_or from.start e.start; end = unwrap_or 
 
 -- the text of an environment file, and the words, stand for an environment and the costs of its cells
 abbrev pub IsEnvironmentFor : Sources → List ℕ → Environment → List ℕ → Type 0
-IsEnvironmentFor from text e cells = (file : Environment) × IsEnvironmentText text file cells × AreOn (IsPoseOnMap file) from.start from.goal × (e ≡ posed from file)
+IsEnvironmentFor from text e cells = (file : Environment) × IsEnvironmentText from.states text file cells × AreOn (IsPoseOnMap file) from.start from.goal × (e ≡ posed from file)
 
 -- the text stands for an environment, and this end that the words give is off its map
 abbrev pub HasEndOff : Sources → List ℕ → PathEnd → Type 0
-HasEndOff from text end = (file : Environment) × (cells : List ℕ) × IsEnvironmentText text file cells × IsFirstOff (IsPoseOnMap file) from.start from.goal end
+HasEndOff from text end = (file : Environment) × (cells : List ℕ) × IsEnvironmentText from.states text file cells × IsFirstOff (IsPoseOnMap file) from.start from.goal end
 
 -- the same of a grid, whose states are its cells, row by row
 abbrev pub IsSquareOn : NavEnvironment → Square → Type 0
@@ -91,38 +90,40 @@ posed_on_grid from e = record e {
 }
 
 abbrev pub IsGridFor : GridSources → List ℕ → NavEnvironment → List ℕ → Type 0
-IsGridFor from text e cells = (file : NavEnvironment) × IsGridText text file cells × AreOn (IsSquareOn file) from.start from.goal × (e ≡ posed_on_grid from file)
+IsGridFor from text e cells = (file : NavEnvironment) × IsGridText from.states text file cells × AreOn (IsSquareOn file) from.start from.goal × (e ≡ posed_on_grid from file)
 
 abbrev pub HasGridEndOff : GridSources → List ℕ → PathEnd → Type 0
-HasGridEndOff from text end = (file : NavEnvironment) × (cells : List ℕ) × IsGridText text file cells × IsFirstOff (IsSquareOn file) from.start from.goal end
+HasGridEndOff from text end = (file : NavEnvironment) × (cells : List ℕ) × IsGridText from.states text file cells × IsFirstOff (IsSquareOn file) from.start from.goal end
 
 -- ---- change files
 
--- what a change file is read for: the map, and, where its lines can say where the robot is, the number of headings
+-- what a change file is read for: the limit of states, the map, and, where its lines can say where the robot is, the number of headings
 pub record Scope : Type 0 where
+  pub states : ℕ
   pub map : CellMap
   pub headings : Option ℕ
 
 -- the scope of a change file for an environment and a map, where the robot moves or not
-abbrev pub scope_for : (moving : Bool) → Environment → CellMap → Scope
-scope_for moving e m = record { map = m; headings = if moving then Some e.headings else None }
+abbrev pub scope_for : (states : ℕ) → (moving : Bool) → Environment → CellMap → Scope
+scope_for states moving e m = record { states = states; map = m; headings = if moving then Some e.headings else None }
 
 -- where the robot stays
-abbrev pub still_scope : CellMap → Scope
-still_scope m = record { map = m; headings = None }
+abbrev pub still_scope : (states : ℕ) → CellMap → Scope
+still_scope states m = record { states = states; map = m; headings = None }
 
 -- batches over which the robot stays where it is
 abbrev pub still : List (List Write) → Updates
 still batches = record { batches = batches; moves = None }
 
 -- the text of a change file stands for map updates
-abbrev pub IsTextOfUpdates : CellMap → (headings : Option ℕ) → List ℕ → Updates → Type 0
-IsTextOfUpdates m None text c = changes.IsTextOf m text c.batches × (c.moves ≡ None)
-IsTextOfUpdates m (Some headings) text c = (moves : List (Option Place)) × (c.moves ≡ Some moves) × changes.IsMovesTextOf m headings text c.batches moves
+abbrev pub IsTextOfUpdates : (states : ℕ) → CellMap → (headings : Option ℕ) → List ℕ → Updates → Type 0
+IsTextOfUpdates states m None text c = changes.IsTextOf states m text c.batches × (c.moves ≡ None)
+IsTextOfUpdates states m (Some headings) text c =
+    (moves : List (Option Place)) × (c.moves ≡ Some moves) × changes.IsMovesTextOf states m headings text c.batches moves
 
 abbrev pub IsChangeText : Scope → List ℕ → Updates → Type 0
-IsChangeText s text c = IsTextOfUpdates s.map s.headings text c
+IsChangeText s text c = IsTextOfUpdates s.states s.map s.headings text c
 
 -- the first fault of the text of a change file
 abbrev pub HasChangeFault : Scope → List ℕ → ChangeFault → Type 0
-HasChangeFault s text f = change_faults.HasTextFault s.map s.headings text f
+HasChangeFault s text f = change_faults.HasTextFault s.states s.map s.headings text f

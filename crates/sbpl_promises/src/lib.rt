@@ -103,8 +103,8 @@ pub use sbpl_replan::Session;
 // Of `sbpl_job`.
 pub use sbpl_report::{
     Asked, CheckJob, Command, DemoJob, GridSources, Job, JobFault, LabelForm, Name, NavCheckJob,
-    NavJob, Outputs, PlanJob, Planner, SearchJob, Setting, Sources, Square, read_asked, read_job,
-    words_part_into_forms,
+    NavJob, Outputs, PlanJob, Planner, SearchJob, Setting, Sources, Square, USUAL_STATES,
+    read_asked, read_job, words_part_into_forms,
 };
 
 // Of `sbpl_report`.

@@ -67,7 +67,7 @@ module _ (n : Network) (sound : IsSound n) (guide : ℕ → ℕ) (goal : ℕ) (m
   arcs_fit (outcome.Path p) is = record {
     few =
         let few : length p.arcs < n.states = is.walk.few in
-        let most : n.states ≤ 2 ^ 23 = sound.few_states in omega arith;
+        let most : n.states ≤ 2 ^ 28 = sound.few_states in omega arith;
     small = small_arcs n m.start goal p.cost p.arcs sound is.walk.path;
   }
   arcs_fit outcome.NoPath is = refl

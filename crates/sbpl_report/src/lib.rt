@@ -88,6 +88,6 @@ pub use sbpl_plan::{
 // Of `sbpl_job`.
 pub use sbpl_job::{
     Asked, CheckJob, Command, DemoJob, GridSources, Job, JobFault, LabelForm, Name, NavCheckJob,
-    NavJob, Outputs, PlanJob, Planner, SearchJob, Setting, Sources, Square, read_asked, read_job,
-    words_part_into_forms,
+    NavJob, Outputs, PlanJob, Planner, SearchJob, Setting, Sources, Square, USUAL_STATES,
+    read_asked, read_job, words_part_into_forms,
 };

@@ -17,6 +17,6 @@ pub use sbpl_map::{
     COST_WANTED, ChangeFault, Changes, Env, EnvFault, Grid, HEIGHT_WANTED, Map, Message, Moves,
     OBSTACLE_WANTED, OffMap, Row, START_WANTED, WIDTH_WANTED, Write, changes_message, count_before,
     message_at, read_changes, read_env, read_moves, texts_are_changes_or_faulty,
-    texts_are_moves_or_faulty, wanted_at, writes_lead_to_the_next_map,
+    texts_are_moves_or_faulty, wanted_at, with_limit, writes_lead_to_the_next_map,
 };
 pub use terrain::Terrain;

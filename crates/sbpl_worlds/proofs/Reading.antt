@@ -77,7 +77,7 @@ primitives_stop s t u from e cells (stop.Refused r m) says same cause = by_refus
 
 -- a stop for an end that is off the map is one, where the environment file was read before
 pub end_stop : (s u : DeskState) (from : Sources) (text : List ℕ) (file : Environment) (cells : List ℕ) (x : JobStop)
-    → IsReadText (s.held from.env) text → IsEnvironmentText text file cells
+    → IsReadText (s.held from.env) text → IsEnvironmentText from.states text file cells
     → IsOffStop (IsPoseOnMap file) from.start from.goal x → LatticeStopsFor s u from x
 end_stop s u from text file cells x read stands off = by_stop x off.refused
   where

@@ -17,18 +17,19 @@ ghost use Rattle.sbpl_promises.specs.Causes.{IsDrawn, NoneTooDear};
 
 use sbpl_promises::{
     ChangeFault, Changes, Demo, DemoJob, Env, EnvFault, Grid, Lattice, LatticeFault, Map, NoMemory,
-    PrimFault, Prims, SweepFault, Sweeps, generate, read_changes, read_env, read_prims,
+    PrimFault, Prims, SweepFault, Sweeps, USUAL_STATES, generate, read_changes, read_env,
+    read_prims,
 };
 use std::alloc::Global;
 
 /// The environment and the costs that are drawn.
 fn env_of(alloc: Global, text: &[u8], job: &DemoJob) -> Result<(Env, Grid), NoMemory>
-    requires said { IsEnvironmentText text.now (environment job.now.width job.now.height)
+    requires said { IsEnvironmentText 8388608 text.now (environment job.now.width job.now.height)
         (costs job.now.width job.now.height job.now.seed) }
     ensures env { IfOk result (λ x. x.0 ≡ environment job.now.width job.now.height) }
     ensures grid { IfOk result (λ x. x.1 ≡ costs job.now.width job.now.height job.now.seed) }
 {
-    match read_env(alloc, text) {
+    match read_env(alloc, text, USUAL_STATES) {
         Ok(drawn) => Ok(drawn),
         Err(EnvFault::NoMemory) => Err(NoMemory),
         // What is drawn has no fault.
@@ -52,11 +53,11 @@ fn prims_of(alloc: Global, text: &[u8]) -> Result<Prims, NoMemory>
 /// The batches of changes that are drawn.
 fn changes_of(alloc: Global, text: &[u8], map: &Map, job: &DemoJob) -> Result<Changes, NoMemory>
     requires short { length text.now ≤ 429 }
-    requires said { IsChangeText map.now text.now (changes_drawn job.now.width job.now.height job.now.seed) }
+    requires said { IsChangeText 8388608 map.now text.now (changes_drawn job.now.width job.now.height job.now.seed) }
     ensures changes { IfOk result (λ x. x ≡ changes_drawn job.now.width job.now.height job.now.seed) }
     ensures on_map { IfOk result (AreOnMap map.now) }
 {
-    match read_changes(alloc, text, map) {
+    match read_changes(alloc, text, map, USUAL_STATES) {
         Ok(changes) => Ok(changes),
         Err(ChangeFault::NoMemory) => Err(NoMemory),
         // What is drawn has no fault.
@@ -111,7 +112,7 @@ fn lattice_of(
 
 /// The lattice that the texts of a drawn example stand for.
 fn lattice_from(alloc: Global, demo: &Demo, job: &DemoJob) -> Result<Lattice, NoMemory>
-    requires env { IsEnvironmentText demo.now.env (environment job.now.width job.now.height)
+    requires env { IsEnvironmentText 8388608 demo.now.env (environment job.now.width job.now.height)
         (costs job.now.width job.now.height job.now.seed) }
     requires prims { IsPrimitiveText demo.now.prims primitives }
     requires narrow { NoneTooWide primitives 0 }
@@ -128,11 +129,11 @@ fn lattice_from(alloc: Global, demo: &Demo, job: &DemoJob) -> Result<Lattice, No
 
 /// The lattice and the batches of changes that the texts of a drawn example stand for.
 fn parts_of(alloc: Global, demo: &Demo, job: &DemoJob) -> Result<(Lattice, Changes), NoMemory>
-    requires env { IsEnvironmentText demo.now.env (environment job.now.width job.now.height)
+    requires env { IsEnvironmentText 8388608 demo.now.env (environment job.now.width job.now.height)
         (costs job.now.width job.now.height job.now.seed) }
     requires prims { IsPrimitiveText demo.now.prims primitives }
     requires changes { (m : CellMap) → m.width ≡ job.now.width → m.height ≡ job.now.height
-        → IsChangeText m demo.now.changes (changes_drawn job.now.width job.now.height job.now.seed) }
+        → IsChangeText 8388608 m demo.now.changes (changes_drawn job.now.width job.now.height job.now.seed) }
     requires short { length demo.now.changes ≤ 429 }
     requires narrow { NoneTooWide primitives 0 }
     requires cheap { NoneTooDear (environment job.now.width job.now.height) primitives }

@@ -67,16 +67,22 @@ pub fn read_file<D: Desk>(
     }
 }
 
-/// The environment that the text of the file of this name stands for.
-fn judge_environment(alloc: Global, name: &Name, text: &[u8]) -> Result<(Env, Grid), JobStop>
-    ensures stands { IfOk result (λ x. IsEnvironmentText text.now x.0 x.1) }
-    ensures stop { IfErr result (IsEnvironmentRefused name.now text.now) }
+/// The environment that the text of the file of this name stands for, under this limit of states.
+fn judge_environment(
+    alloc: Global,
+    name: &Name,
+    text: &[u8],
+    states: u32,
+) -> Result<(Env, Grid), JobStop>
+    requires limit { states ≤ 268435456 }
+    ensures stands { IfOk result (λ x. IsEnvironmentText states text.now x.0 x.1) }
+    ensures stop { IfErr result (IsEnvironmentRefused states name.now text.now) }
 {
-    match read_env(alloc, text) {
+    match read_env(alloc, text, states) {
         Ok(found) => Ok(found),
         Err(EnvFault::NoMemory) => Err(JobStop::NoMemory),
         Err(fault) => {
-            let message = environment_message(alloc, name.as_str(), text, &fault)?;
+            let message = environment_message(alloc, name.as_str(), text, &fault, states)?;
             Err(JobStop::Refused(Refusal::Environment(fault), message))
         }
     }
@@ -95,7 +101,7 @@ pub(crate) fn read_environment<D: Desk>(
     ensures frame { ReadsOnly (D.state desk.old) (D.state desk.new) }
 {
     let text = read_file(alloc, &from.env, Input::Environment, desk)?;
-    let (file, grid) = judge_environment(alloc, &from.env, text.as_slice())?;
+    let (file, grid) = judge_environment(alloc, &from.env, text.as_slice(), from.states)?;
     let env = posed(alloc, from, &file)?;
     Ok((env, grid))
 }
@@ -138,35 +144,49 @@ pub(crate) fn read_primitives<D: Desk>(
     judge_primitives(alloc, &from.prims, text.as_slice(), env)
 }
 
-/// Why the change file of this name is refused, whose text has this fault, or that memory ran out. `moves` says whether its
-/// lines can say where the robot is.
-fn stop_for(alloc: Global, name: &Name, text: &[u8], moves: bool, fault: ChangeFault) -> JobStop
+/// Why the change file of this name is refused, whose text has this fault under this limit of states, or that memory ran out.
+/// `moves` says whether its lines can say where the robot is.
+fn stop_for(
+    alloc: Global,
+    name: &Name,
+    text: &[u8],
+    moves: bool,
+    fault: ChangeFault,
+    states: u32,
+) -> JobStop
     ensures stop { (s : Scope) → (fault ≢ ChangeFaults.NoMemory → HasChangeFault s text.now fault)
         → IsChangesRefused s name.now text.now result }
 {
     if let ChangeFault::NoMemory = fault {
         return JobStop::NoMemory;
     }
-    match changes_message(alloc, name.as_str(), text, moves, &fault) {
+    match changes_message(alloc, name.as_str(), text, moves, &fault, states) {
         Ok(message) => JobStop::Refused(Refusal::Changes(fault), message),
         Err(NoMemory) => JobStop::NoMemory,
     }
 }
 
 /// The map updates that the text of the file of this name stands for, in which the robot stays where it is.
-fn judge_still(alloc: Global, name: &Name, text: &[u8], map: &Map) -> Result<Updates, JobStop>
+fn judge_still(
+    alloc: Global,
+    name: &Name,
+    text: &[u8],
+    map: &Map,
+    states: u32,
+) -> Result<Updates, JobStop>
     requires short { length text.now ≤ 2 ^ 30 }
-    ensures stands { IfOk result (IsChangeText (still_scope map.now) text.now) }
+    requires limit { states ≤ 268435456 }
+    ensures stands { IfOk result (IsChangeText (still_scope states map.now) text.now) }
     ensures on_map { IfOk result (λ c. AreOnMap map.now c.batches) }
     ensures stays { IfOk result (λ c. c.moves ≡ None) }
-    ensures stop { IfErr result (IsChangesRefused (still_scope map.now) name.now text.now) }
+    ensures stop { IfErr result (IsChangesRefused (still_scope states map.now) name.now text.now) }
 {
-    match read_changes(alloc, text, map) {
+    match read_changes(alloc, text, map, states) {
         Ok(batches) => Ok(Updates {
             batches,
             moves: None,
         }),
-        Err(fault) => Err(stop_for(alloc, name, text, false, fault)),
+        Err(fault) => Err(stop_for(alloc, name, text, false, fault, states)),
     }
 }
 
@@ -176,18 +196,20 @@ fn judge_moving(
     name: &Name,
     text: &[u8],
     lattice: &Lattice,
+    states: u32,
 ) -> Result<Updates, JobStop>
     requires short { length text.now ≤ 2 ^ 30 }
-    ensures stands { IfOk result (IsChangeText (scope_of true lattice.now) text.now) }
+    requires limit { states ≤ 268435456 }
+    ensures stands { IfOk result (IsChangeText (scope_of states true lattice.now) text.now) }
     ensures in_world { IfOk result (AreUpdatesIn lattice_site true lattice.now) }
-    ensures stop { IfErr result (IsChangesRefused (scope_of true lattice.now) name.now text.now) }
+    ensures stop { IfErr result (IsChangesRefused (scope_of states true lattice.now) name.now text.now) }
 {
-    match read_moves(alloc, text, lattice.map(), lattice.env().headings) {
+    match read_moves(alloc, text, lattice.map(), lattice.env().headings, states) {
         Ok((batches, moves)) => Ok(Updates {
             batches,
             moves: Some(moves),
         }),
-        Err(fault) => Err(stop_for(alloc, name, text, true, fault)),
+        Err(fault) => Err(stop_for(alloc, name, text, true, fault, states)),
     }
 }
 
@@ -195,7 +217,7 @@ fn judge_moving(
 fn no_changes(alloc: Global, map: &Map) -> Result<Changes, NoMemory>
     ensures none { IfOk result (λ c. c ≡ []) }
 {
-    match read_changes(alloc, &[], map) {
+    match read_changes(alloc, &[], map, 1) {
         Ok(changes) => Ok(changes),
         Err(_) => Err(NoMemory),
     }
@@ -206,12 +228,14 @@ pub(crate) fn read_still<D: Desk>(
     alloc: Global,
     changes: &Option<Name>,
     map: &Map,
+    states: u32,
     desk: &mut D,
 ) -> Result<Updates, JobStop>
-    ensures says { IfOk result (ReadsUpdates (D.state desk.old).held changes.now (still_scope map.now)) }
+    requires limit { states ≤ 268435456 }
+    ensures says { IfOk result (ReadsUpdates (D.state desk.old).held changes.now (still_scope states map.now)) }
     ensures on_map { IfOk result (λ c. AreOnMap map.now c.batches) }
     ensures stays { IfOk result (λ c. c.moves ≡ None) }
-    ensures stop { IfErr result (ChangesStopFor (D.state desk.old) (D.state desk.new) changes.now (still_scope map.now)) }
+    ensures stop { IfErr result (ChangesStopFor (D.state desk.old) (D.state desk.new) changes.now (still_scope states map.now)) }
     ensures explained { IfErr result (ExplainsChanges (D.state desk.old).held changes.now) }
     ensures frame { ReadsOnly (D.state desk.old) (D.state desk.new) }
 {
@@ -225,7 +249,7 @@ pub(crate) fn read_still<D: Desk>(
         };
     };
     let text = read_file(alloc, name, Input::Changes, desk)?;
-    judge_still(alloc, name, text.as_slice(), map)
+    judge_still(alloc, name, text.as_slice(), map, states)
 }
 
 /// The map updates of the change file on a lattice; no batches where there is no such file. Where the robot may move, lines of
@@ -235,19 +259,22 @@ pub(crate) fn read_change_file<D: Desk>(
     changes: &Option<Name>,
     moving: bool,
     lattice: &Lattice,
+    states: u32,
     desk: &mut D,
 ) -> Result<Updates, JobStop>
-    ensures says { IfOk result (ReadsUpdates (D.state desk.old).held changes.now (scope_of moving lattice.now)) }
+    requires limit { states ≤ 268435456 }
+    ensures says { IfOk result (ReadsUpdates (D.state desk.old).held changes.now (scope_of states moving lattice.now)) }
     ensures in_world { IfOk result (AreUpdatesIn lattice_site moving lattice.now) }
-    ensures stop { IfErr result (ChangesStopFor (D.state desk.old) (D.state desk.new) changes.now (scope_of moving lattice.now)) }
+    ensures stop { IfErr result
+        (ChangesStopFor (D.state desk.old) (D.state desk.new) changes.now (scope_of states moving lattice.now)) }
     ensures explained { IfErr result (ExplainsChanges (D.state desk.old).held changes.now) }
     ensures frame { ReadsOnly (D.state desk.old) (D.state desk.new) }
 {
     match changes {
         Some(name) if moving => {
             let text = read_file(alloc, name, Input::Changes, desk)?;
-            judge_moving(alloc, name, text.as_slice(), lattice)
+            judge_moving(alloc, name, text.as_slice(), lattice, states)
         }
-        _ => read_still(alloc, changes, lattice.map(), desk),
+        _ => read_still(alloc, changes, lattice.map(), states, desk),
     }
 }

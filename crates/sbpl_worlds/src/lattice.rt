@@ -100,7 +100,7 @@ pub fn read_updates<D: Desk>(
     ensures frame { ReadsOnly (D.state desk.old) (D.state desk.new) }
 {
     let lattice = read_lattice(alloc, from, desk)?;
-    match read_change_file(alloc, changes, moving, &lattice, desk) {
+    match read_change_file(alloc, changes, moving, &lattice, from.states, desk) {
         Ok(updates) => Ok((lattice, updates)),
         Err(stop) => {
             // Let go by a call: the drop of each field here would make the proof long.

@@ -12,9 +12,12 @@ const CELL: i64 = 25_000_000;
 /// The number of headings that they are read for.
 const HEADINGS: u32 = 16;
 
+/// The limit of states that environments are read with: the usual one.
+const STATES: u32 = 8_388_608;
+
 /// Prints the environment that a text stands for, and answers whether it stands for one.
 fn prints_environment(alloc: Global, text: &[u8], out: &mut Vec<u8>) -> bool {
-    match read_env(alloc, text) {
+    match read_env(alloc, text, STATES) {
         Ok((env, grid)) => print_env(&env, &grid, out).is_ok(),
         Err(_) => false,
     }

@@ -20,7 +20,7 @@ environment:
 
 /// The grid of a text.
 fn grid_of(alloc: Global, text: &str) -> Result<Nav, EnvFault> {
-    let (env, grid) = read_nav(alloc, text.as_bytes())?;
+    let (env, grid) = read_nav(alloc, text.as_bytes(), 8_388_608)?;
     let map = Map::plain(env.width, env.height, grid);
     Ok(Nav::new(&env, map))
 }

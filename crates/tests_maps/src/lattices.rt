@@ -7,7 +7,7 @@ use std::alloc::Global;
 fn swept(alloc: Global, env: &Env, grid: Grid, prims: Prims) -> Option<Lattice> {
     if prims.cell() != env.cell
         || prims.headings() != env.headings
-        || grid.as_slice().len() != (env.width * env.height) as usize
+        || grid.as_slice().len() as u64 != u64::from(env.width) * u64::from(env.height)
     {
         return None;
     }
@@ -17,7 +17,7 @@ fn swept(alloc: Global, env: &Env, grid: Grid, prims: Prims) -> Option<Lattice> 
 
 /// The lattice of two texts for a robot of radius 0, where there is one.
 pub(crate) fn made(alloc: Global, env: &str, prims: &str) -> Option<Lattice> {
-    let (env, grid) = read_env(alloc, env.as_bytes()).ok()?;
+    let (env, grid) = read_env(alloc, env.as_bytes(), 8_388_608).ok()?;
     let prims = read_prims(alloc, prims.as_bytes(), env.cell, env.headings).ok()?;
     swept(alloc, &env, grid, prims)
 }

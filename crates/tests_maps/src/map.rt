@@ -10,9 +10,12 @@ use sbpl_heur::{
 use std::alloc::Global;
 use std::test::Fail;
 
+/// The limit of states that texts are read with: the usual one.
+const STATES: u32 = 8_388_608;
+
 /// The map of an environment file.
 fn map_of(alloc: Global, text: &str) -> Result<Map, Fail> {
-    let (env, grid) = read_env(alloc, text.as_bytes())?;
+    let (env, grid) = read_env(alloc, text.as_bytes(), STATES)?;
     let cells = grid.as_slice().len();
     if cells as u64 == u64::from(env.width) * u64::from(env.height) {
         Ok(Map::new(&env, grid))
@@ -68,9 +71,9 @@ fn fault_of(alloc: Global, map: &Map, text: &str, moves: bool) -> Option<ChangeF
         return None;
     }
     if moves {
-        read_moves(alloc, text.as_bytes(), map, 16).err()
+        read_moves(alloc, text.as_bytes(), map, 16, STATES).err()
     } else {
-        read_changes(alloc, text.as_bytes(), map).err()
+        read_changes(alloc, text.as_bytes(), map, STATES).err()
     }
 }
 
@@ -149,12 +152,12 @@ const TEXT: &str =
 
 /// Whether the text has these batches, and a text of blanks alone has none.
 fn are_read(alloc: Global, map: &Map) -> bool {
-    let Ok((changes, moves)) = read_moves(alloc, TEXT.as_bytes(), map, 16) else {
+    let Ok((changes, moves)) = read_moves(alloc, TEXT.as_bytes(), map, 16, STATES) else {
         return false;
     };
     let are = are_batches(&changes, &moves);
     drop((changes, moves));
-    let Ok(none) = read_changes(alloc, b" \r\n", map) else {
+    let Ok(none) = read_changes(alloc, b" \r\n", map, STATES) else {
         return false;
     };
     are && none.batches() == 0

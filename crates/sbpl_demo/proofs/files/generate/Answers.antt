@@ -1,4 +1,4 @@
-use Rattle.std.proofs.Common.{◌≡◌, ◌++◌}
+use Rattle.std.proofs.Common.{◌≡◌, ◌++◌, lit≤}
 use Rattle.std.specs.List.{flat_map}
 use Rattle.std.proofs.lemmas.Result.{IfOk-weaker}
 use Rattle.sbpl_cost.specs.sbpl_map.CellMap.{CellMap}
@@ -7,7 +7,7 @@ use Rattle.sbpl_demo.specs.Environment.{costs, environment}
 use Rattle.sbpl_demo.specs.Primitives.{head_lines, motion_lines, motions, primitives}
 use Rattle.sbpl_demo.proofs.Batches.{are_changes}
 use Rattle.sbpl_demo.proofs.Eighty.{are_primitives}
-use Rattle.sbpl_demo.proofs.Environments.{is_environment, is_grid}
+use Rattle.sbpl_demo.proofs.Environments.{few_states, is_environment, is_grid}
 use Rattle.sbpl_demo.proofs.Prices.{are_cheap, are_narrow}
 use Rattle.sbpl_demo.proofs.Shown.{file_shown}
 use Rattle.sbpl_demo.proofs.files.generate.Goals as goal
@@ -16,7 +16,8 @@ pub returns-clause-env_said : goal.returns-clause-env_said
 returns-clause-env_said c =
     let w = c.args.width in
     let h = c.args.height in
-    let said = c.texts_are_environments_or_faulty.ensures.printed (environment w h) (costs w h c.args.seed)
+    let said = c.texts_are_environments_or_faulty.ensures.printed 8388608 (environment w h) (costs w h c.args.seed)
+    (few_states w h c.requires.width.1 c.requires.height.1)
     (is_environment w h c.requires.width.0 c.requires.width.1 c.requires.height.0 c.requires.height.1)
     (is_grid w h c.args.seed) in
     IfOk-weaker c.draw_files.result _ _ (λ demo is. rw is said) c.draw_files.ensures.env
@@ -33,7 +34,7 @@ returns-clause-changes_said c =
     let w = c.args.width in
     let h = c.args.height in
     let said = λ (m : CellMap) (wide : m.width ≡ w) (high : m.height ≡ h).
-    c.texts_are_changes_or_faulty.ensures.printed m (changes_drawn w h c.args.seed)
+    c.texts_are_changes_or_faulty.ensures.printed 8388608 m (changes_drawn w h c.args.seed) (lit≤ tt)
     (are_changes w h c.args.seed m c.requires.width.0 c.requires.width.1 c.requires.height.0
     c.requires.height.1 wide high) in
     IfOk-weaker c.draw_files.result _ _ (λ demo is m wide high. rw is (said m wide high)) c.draw_files.ensures.changes

@@ -17,7 +17,7 @@ returns-clause-ends g c =
     let t = g.D.Desk.state c.read_grid_updates.new.desk in
     let files = grid_files c.args.job.now.sources in
     let log = entries_of c.args.live.now in
-    let e = as_told grid_site false c.requires.range.1 c.make_plans.ensures.ends in
+    let e = as_told grid_site false c.requires.range.2 c.make_plans.ensures.ends in
     let plans : ArePlanned s.held files c.args.job.now.changes c.args.job.now.search c.args.job.now.outputs e.records e.all log e.broken =
     record {
       world = c.in_ok-nav.nav;

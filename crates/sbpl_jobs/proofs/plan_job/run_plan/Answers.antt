@@ -30,7 +30,7 @@ planned_so : (s t u : DeskState) (j : PlanJob) (log shown : List Entry) (w : Wor
     j.search j.outputs (start_after lattice_site.reporting w start updates.moves) goal 0 log shown [] ending.why None t u
     (number_of ending.status)
     → lattice_site.reporting.starts w start → lattice_site.reporting.ends w goal
-    → ReadsWorld s.held j.sources w → ReadsUpdates s.held j.changes (scope_of (may_move j.search.planner) w) updates
+    → ReadsWorld s.held j.sources w → ReadsUpdates s.held j.changes (scope_of j.sources.states (may_move j.search.planner) w) updates
     → ReadsOnly s t → WritesOnly (IsOutputOf j.outputs) t u → IsJobEnding s u log shown (job.Plan j) ending
 planned_so s t u j log shown w updates start goal ending e start_is goal_is says changes_say read wrote =
     let plans : ArePlanned s.held (plan_files j) j.changes j.search j.outputs e.records e.all log e.broken = record {
@@ -76,7 +76,7 @@ returns-then-moving-clause-ends g c =
     (rw c.new-world.ensures.lattice at c.make_plans-ending.ensures.ends))
     c.ends-start.ensures.start c.ends-start.ensures.goal c.in_ok-lattice.ensures.updates.says
     (subst (λ (b : Bool). ReadsUpdates (g.D.Desk.state c.args.desk.now).held c.args.job.now.changes
-    (scope_of b c.in_ok-lattice.lattice) c.in_ok-lattice.updates)
+    (scope_of c.args.job.now.sources.states b c.in_ok-lattice.lattice) c.in_ok-lattice.updates)
     c.may_move-moving.ensures.value c.in_ok-lattice.ensures.updates.updates_are)
     c.in_ok-lattice.ensures.frame c.make_plans-ending.ensures.frame
 
@@ -88,7 +88,7 @@ returns-clause-ends g c =
     c.make_plans-ending-2.ensures.ends)
     c.ends-start.ensures.start c.ends-start.ensures.goal c.in_ok-lattice.ensures.updates.says
     (subst (λ (b : Bool). ReadsUpdates (g.D.Desk.state c.args.desk.now).held c.args.job.now.changes
-    (scope_of b c.in_ok-lattice.lattice) c.in_ok-lattice.updates)
+    (scope_of c.args.job.now.sources.states b c.in_ok-lattice.lattice) c.in_ok-lattice.updates)
     c.may_move-moving.ensures.value c.in_ok-lattice.ensures.updates.updates_are)
     c.in_ok-lattice.ensures.frame c.make_plans-ending-2.ensures.frame
 

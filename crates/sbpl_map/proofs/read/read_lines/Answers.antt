@@ -13,7 +13,7 @@ pub returns-in_err-judged : goal.returns-in_err-judged
 returns-in_err-judged c =
     let i = c.loop-rest.invariant in
     let was =
-    stops c.args.map.now c.args.headings c.loop-rest.number c.loop-rest.rest.now
+    stops c.args.states c.args.map.now c.args.headings c.loop-rest.number c.loop-rest.rest.now
     c.first_line.result.0.now c.first_line.result.1.now i.0 c.in_err-judged.field-0.0 _
     i.2 c.first_line.ensures.lines (sym c.judged.ensures.said ∙ c.in_err-judged.was) in
     let p = err_from_is_err_and c.from_residual-in_err-judged.result c.from_residual-in_err-judged.ensures.1 in
@@ -34,7 +34,7 @@ loop-rest-preserved c =
     let new = drafted i.0 c.loop-rest.number c.in_ok-judged.field-0 in (
       new,
       c.in_ok-add.ensures.added i.0 i.1,
-      goes_on c.args.map.now c.args.headings c.loop-rest.number c.loop-rest.rest.now
+      goes_on c.args.states c.args.map.now c.args.headings c.loop-rest.number c.loop-rest.rest.now
           c.first_line.result.0.now c.first_line.result.1.now i.0 new c.in_ok-judged.field-0 _
           i.2 c.first_line.ensures.lines (sym c.judged.ensures.said ∙ c.in_ok-judged.was) refl,
       omega (arith, i.3, c.first_line.ensures.shorter),
@@ -45,5 +45,5 @@ pub returns : goal.returns
 returns c =
     let i = c.loop-rest.invariant in
     let none : length c.loop-rest.rest.now ≡ 0 = (let at = c.is_empty.ensures in grind (arith, nat_tests)) in
-    let was = ends c.args.map.now c.args.headings c.loop-rest.number c.loop-rest.rest.now i.0 _ i.2 none in
+    let was = ends c.args.states c.args.map.now c.args.headings c.loop-rest.number c.loop-rest.rest.now i.0 _ i.2 none in
     record { read = answered _ _ (c.close.ensures.closed i.0 i.1 ∙ sym (ap parted was)) }

@@ -7,7 +7,7 @@ use Rattle.sbpl_map.proofs.read.read_lines.Given as goal
 abbrev pub invariant-loop-rest : goal.invariant-loop-rest
 invariant-loop-rest l =
     (d : Drafted) × (l.draft ≡ kept_of d)
-    × (reads_on l.map l.headings l.number (lines l.rest) d ≡ told_by l.map l.headings l.text)
+    × (reads_on l.states l.map l.headings l.number (lines l.rest) d ≡ told_by l.states l.map l.headings l.text)
     × (l.number + length l.rest ≤ length l.text + 1)
     × (length d.done + 1 ≤ l.number)
 

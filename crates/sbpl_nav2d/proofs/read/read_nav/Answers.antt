@@ -12,16 +12,16 @@ pub returns-clause-found : goal.returns-clause-found
 returns-clause-found c =
     let text = c.args.text.now in
     let view : (NavEnvironment × List ℕ) → NavEnvironment × List ℕ = λ y. y in
-    IfOk-weaker c.environment.result _ _ (λ x h. text_said text x h)
-    (found_if_answered told environment_format text NoMemory view c.environment.result
-    (answers_given told environment_format text NoMemory view c.environment.result c.environment.new.reader
+    IfOk-weaker c.environment.result _ _ (λ x h. text_said c.args.states text x c.requires.limit h)
+    (found_if_answered told (environment_format c.args.states) text NoMemory view c.environment.result
+    (answers_given told (environment_format c.args.states) text NoMemory view c.environment.result c.environment.new.reader
     (rw c.new.ensures.start at c.environment.ensures.read)))
 
 pub returns-clause-only : goal.returns-clause-only
 returns-clause-only c x h =
     let text = c.args.text.now in
     let view : (NavEnvironment × List ℕ) → NavEnvironment × List ℕ = λ y. y in
-    only_if_answered told environment_format text NoMemory view c.environment.result
-    (answers_given told environment_format text NoMemory view c.environment.result c.environment.new.reader
+    only_if_answered told (environment_format c.args.states) text NoMemory view c.environment.result
+    (answers_given told (environment_format c.args.states) text NoMemory view c.environment.result c.environment.new.reader
     (rw c.new.ensures.start at c.environment.ensures.read))
-    x (says_text text x h)
+    x (says_text c.args.states text x h)

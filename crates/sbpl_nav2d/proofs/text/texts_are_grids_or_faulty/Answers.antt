@@ -10,27 +10,27 @@ use Rattle.sbpl_nav2d.proofs.TextLaws.{says_text, text_said}
 use Rattle.sbpl_nav2d.proofs.text.texts_are_grids_or_faulty.Goals as goal
 
 pub returns-clause-format : goal.returns-clause-format
-returns-clause-format c text x = (text_said text x, says_text text x)
+returns-clause-format c states text x small = (text_said states text x small, says_text states text x)
 
 pub returns-clause-either : goal.returns-clause-either
-returns-clause-either c text = elim (said_or_faulty told environment_format (start text)) [
-  | inl s ↦ inl (s.0.0, s.0.1, text_said text s.0 (s.1, s.2))
-  | inr f ↦ inr (f.0, no_memory_is_no_fault text f.0 f.1, f.1)
+returns-clause-either c states text small = elim (said_or_faulty told (environment_format states) (start text)) [
+  | inl s ↦ inl (s.0.0, s.0.1, text_said states text s.0 small (s.1, s.2))
+  | inr f ↦ inr (f.0, no_memory_is_no_fault states text f.0 f.1, f.1)
 ]
 
 pub returns-clause-not_both : goal.returns-clause-not_both
-returns-clause-not_both c text f h k =
+returns-clause-not_both c states text f h k =
     let x : NavEnvironment × List ℕ = (h.0, h.1) in
-    said_or_faulty_alone told environment_format (start text) f (let s = says_text text x h.2 in (x, s.0, s.1)) k
+    said_or_faulty_alone told (environment_format states) (start text) f (let s = says_text states text x h.2 in (x, s.0, s.1)) k
 
 pub returns-clause-one_value : goal.returns-clause-one_value
-returns-clause-one_value c text e d cells others h k =
+returns-clause-one_value c states text e d cells others h k =
     let x : NavEnvironment × List ℕ = (e, cells) in
     let y : NavEnvironment × List ℕ = (d, others) in
-    let s = says_text text x h in
-    let t = says_text text y k in
-    let same = said_once environment_format (tokens text) x y s.0 t.0 s.1 t.1 in
+    let s = says_text states text x h in
+    let t = says_text states text y k in
+    let same = said_once (environment_format states) (tokens text) x y s.0 t.0 s.1 t.1 in
     (ap (λ (p : NavEnvironment × List ℕ). p.0) same.0, ap (λ (p : NavEnvironment × List ℕ). p.1) same.0)
 
 pub returns-clause-one_fault : goal.returns-clause-one_fault
-returns-clause-one_fault c text f g h k = faulty_once told environment_format (start text) f g h k
+returns-clause-one_fault c states text f g h k = faulty_once told (environment_format states) (start text) f g h k

@@ -9,13 +9,14 @@ returns-in_ok-text-in-Some-clause-stop g c =
     let s = g.D.Desk.state c.args.desk.now in
     let t = g.D.Desk.state c.read_file.new.desk in
     subst (λ (b : Bool). IfErr c.judge_moving.result (ChangesStopFor s t c.args.changes.now
-    (scope_of b c.args.lattice.now))) (sym c.if-moving.true)
-    (changes_refused s t c.args.changes.now _ (scope_of true c.args.lattice.now) c.in_ok-text-in-Some.text.items
+    (scope_of c.args.states b c.args.lattice.now))) (sym c.if-moving.true)
+    (changes_refused s t c.args.changes.now _ (scope_of c.args.states true c.args.lattice.now)
+    c.in_ok-text-in-Some.text.items
     c.judge_moving.result c.in-Some.is c.in_ok-text-in-Some.ensures.text
     (rw c.as_slice.ensures.value at c.judge_moving.ensures.stop))
 
 pub returns-in_ok-text-in-Some-clause-explained : goal.returns-in_ok-text-in-Some-clause-explained
 returns-in_ok-text-in-Some-clause-explained g c =
-    changes_explained (g.D.Desk.state c.args.desk.now).held c.args.changes.now _ (scope_of true c.args.lattice.now)
-    c.in_ok-text-in-Some.text.items c.judge_moving.result c.in-Some.is c.in_ok-text-in-Some.ensures.text
+    changes_explained (g.D.Desk.state c.args.desk.now).held c.args.changes.now _
+    (scope_of c.args.states true c.args.lattice.now) c.in_ok-text-in-Some.text.items c.judge_moving.result c.in-Some.is c.in_ok-text-in-Some.ensures.text
     (rw c.as_slice.ensures.value at c.judge_moving.ensures.stop)

@@ -17,7 +17,7 @@ returns-in-Err-clause-stop g c =
     let end = g.D.Desk.state c.read_still.new.desk in
     updates_stop _ mid end (grid_files c.args.from.now) c.args.changes.now c.in_ok-nav.nav c.in-Err.stop
     c.in_ok-nav.ensures.says c.in_ok-nav.ensures.frame
-    (subst (λ (m : CellMap). ChangesStopFor mid end c.args.changes.now (still_scope m) c.in-Err.stop)
+    (subst (λ (m : CellMap). ChangesStopFor mid end c.args.changes.now (still_scope c.args.from.now.states m) c.in-Err.stop)
     c.map.ensures.map c.in-Err.ensures.stop)
 
 pub returns-in_err-nav-clause-explained : goal.returns-in_err-nav-clause-explained
@@ -38,8 +38,8 @@ returns-in-Ok-clause-updates g c =
     record {
       says = c.in_ok-nav.ensures.says;
       is_world = c.in_ok-nav.ensures.kept;
-      updates_are = updates_since _ later c.args.changes.now (grid_scope w) updates c.in_ok-nav.ensures.frame.held
-          (subst (λ (m : CellMap). ReadsUpdates later c.args.changes.now (still_scope m) updates)
+      updates_are = updates_since _ later c.args.changes.now (grid_scope c.args.from.now.states w) updates c.in_ok-nav.ensures.frame.held
+          (subst (λ (m : CellMap). ReadsUpdates later c.args.changes.now (still_scope c.args.from.now.states m) updates)
           c.map.ensures.map c.in-Ok.ensures.says);
       in_world = record {
         on_map = subst (λ (m : CellMap). AreOnMap m updates.batches) c.map.ensures.map c.in-Ok.ensures.on_map;

@@ -31,8 +31,8 @@ returns-in-Ok-clause-updates g c =
       says = c.in_ok-lattice.ensures.says;
       is_world = c.in_ok-lattice.ensures.kept;
       updates_are =
-          updates_since _ later c.args.changes.now (scope_of c.args.moving c.in_ok-lattice.lattice) c.in-Ok.updates
-          c.in_ok-lattice.ensures.frame.held c.in-Ok.ensures.says;
+          updates_since _ later c.args.changes.now (scope_of c.args.from.now.states c.args.moving c.in_ok-lattice.lattice)
+          c.in-Ok.updates c.in_ok-lattice.ensures.frame.held c.in-Ok.ensures.says;
       in_world = c.in-Ok.ensures.in_world;
     }
 

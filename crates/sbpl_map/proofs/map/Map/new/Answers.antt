@@ -2,7 +2,7 @@ use Rattle.std.proofs.Common.{arith, ◌*◌, ◌≤◌, ℕ}
 use Rattle.sbpl_map.proofs.map.Map.new.Goals as goal
 
 -- the cells of a map are no more than its states
-cells_le_states : (w h n : ℕ) → 1 ≤ n → w * h * n ≤ 8388608 → w * h ≤ 8388608
+cells_le_states : (w h n : ℕ) → 1 ≤ n → w * h * n ≤ 268435456 → w * h ≤ 268435456
 cells_le_states w h n e le = grind arith
 
 pub plain-requires-clause-ranges : goal.plain-requires-clause-ranges
