@@ -22,7 +22,9 @@ FULL_TURN = 6_283_185_307
 USUAL_HEADINGS = 16
 GRID_HEADINGS = 1
 GRID_STEPS = [(1, 0), (1, 1), (0, 1), (-1, 1), (-1, 0), (-1, -1), (0, -1), (1, -1)]
-MOST_STATES = 2**23
+# the most states that `--states` allows, and that the planner takes without it
+MOST_STATES = 2**28
+USUAL_STATES = 2**23
 MOST_POSES = 200_000
 MOST_NUMBER = 10**18
 # the names of the files that the tool has read
@@ -355,8 +357,8 @@ def read_environment(path: str, cell: int | None = None) -> Environment:
     if tokens.has(5, "start(cells):"):
         return read_grid(tokens, cell or NANO)
     tokens.word("discretization(cells):")
-    width = tokens.whole("the width", 1, 8388608)
-    height = tokens.whole("the height", 1, 8388608)
+    width = tokens.whole("the width", 1, MOST_STATES)
+    height = tokens.whole("the height", 1, MOST_STATES)
     headings = tokens.whole("the number of headings", 4, 64) if tokens.takes("NumThetaDirs:") else USUAL_HEADINGS
     if width * height * headings > MOST_STATES:
         raise tokens.fault(f"the map of {width} by {height} cells is too large: with {headings} headings at most "
