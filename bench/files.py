@@ -79,14 +79,19 @@ def environment(draws, n):
     return head + rows_of_costs(costs, n)
 
 
-def hall(draws, n, radius):
-    """A map of n by n cells for a robot of this radius in cells: pillars in an open hall, and a way from corner to corner."""
+def hall(draws, n, radius, walled=False):
+    """A map of n by n cells for a robot of this radius in cells: pillars in an open hall, and a way from corner to corner; or with
+    walls round the start."""
     first, last = radius + 1, n - radius - 2
     costs = [[0] * n for _ in range(n)]
     for _ in range(max(1, (n - 2 * radius) // 16)):
         x, y = first + draws.next() % (last - first), first + draws.next() % (last - first)
         if min(abs(x - first) + abs(y - first), abs(x - last) + abs(y - last)) > 2 * radius + 4:
             costs[y][x] = 254
+    if walled:
+        for x, y in STEPS:
+            if max(abs(x), abs(y)) == 1:
+                costs[first + y][first + x] = 254
     center = lambda cell: f"{0.025 * cell + 0.0125:.4f}"
     head = (f"discretization(cells): {n} {n}\nobsthresh: 254\ncost_inscribed_thresh: 253\n"
             "cost_possibly_circumscribed_thresh: 128\ncellsize(meters): 0.025\nnominalvel(mpersecs): 1.0\n"

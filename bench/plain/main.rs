@@ -107,6 +107,8 @@ impl Options {
                 "--first" => options.settings.first = thousandths(),
                 "--step" => options.settings.step = thousandths(),
                 "--bound" => options.settings.bound = thousandths(),
+                // A limit of states is for people; this program has none.
+                "--states" => {}
                 other => panic!("unknown option {other}"),
             }
         }
