@@ -283,3 +283,9 @@ def read_map(path: str) -> Map:
     if free > occupied:
         raise keys.fault("free_thresh", "is above occupied_thresh")
     return Map(image, resolution, origin, negate, occupied, free, mode)
+
+
+def read_frame(path: str) -> tuple[int, tuple[int, int]]:
+    """The cell size and the origin that the YAML file of a map says, as `from-costmap` reads them."""
+    keys = Keys(path)
+    return keys.resolution(), keys.origin()

@@ -8,6 +8,7 @@ from __future__ import annotations
 
 import argparse
 import contextlib
+import itertools
 import math
 import os
 import re
@@ -116,6 +117,16 @@ class Step:
     line: int
 
 
+class Pass(NamedTuple):
+    """A pass of a plan: its inflation, its expansions, and the best cost with its bound; without them what stands in their place."""
+
+    inflation: str
+    expanded: int
+    best: int | None
+    bound: str
+    told: str
+
+
 @dataclass
 class Plan:
     """One section of a report."""
@@ -128,6 +139,8 @@ class Plan:
     expanded: int = 0
     start: Place | None = None
     steps: list[Step] = field(default_factory=list)
+    passes: list[Pass] = field(default_factory=list)
+    spent: bool = False
 
 
 def heading_of(headings: int, theta: int) -> int:
@@ -570,6 +583,13 @@ class ReportReader:
             raise self.fault(f"heading {place.t} is not in 0..{self.headings - 1}")
         return place
 
+    def pass_of(self, fields: list[str]) -> Pass:
+        """The pass of a line."""
+        expanded, told = self.numbers(fields[3:4])[0], fields[4:]
+        if len(told) == 4 and (told[0], told[2]) == ("best", "bound"):
+            return Pass(fields[1], expanded, self.numbers(told[1:2])[0], told[3], "")
+        return Pass(fields[1], expanded, None, "", " ".join(told))
+
     def take(self, fields: list[str]) -> None:
         """Takes one line's fields."""
         if self.done:
@@ -591,9 +611,11 @@ class ReportReader:
         elif plan is None:
             raise OtherKind(str(self.fault("no report of a plan begins so: 'plan 0' must stand first")))
         elif word == "pass" and count >= 4 and fields[2] == "expanded" and not plan.result:
-            plan.expanded += self.numbers(fields[3:4])[0]
+            plan.passes.append(self.pass_of(fields))
+            plan.expanded += plan.passes[-1].expanded
         elif word == "spent" and count == 2 and not plan.result:
             self.numbers(fields[1:])
+            plan.spent = True
         elif word in ("nopath", "unknown") and count == 1 and not plan.result:
             plan.result = word
         elif word == "path" and count == 6 and fields[2] == "cost" and fields[4] == "bound" and not plan.result:
@@ -670,6 +692,22 @@ def trail(report: str, environment: Environment, primitives: list[Primitive], pl
     if place != environment.place_of(environment.end):
         raise BadInput(f"{report}:{plan.line}: the path of plan {plan.number} does not end at the environment's end")
     return legs
+
+
+def leg_parts(leg: Leg) -> tuple[float, list[float]]:
+    """A step's way in metres, and which part of the step lies before each pose: of its way, or in place of its turn."""
+    pairs = list(zip(leg.poses, leg.poses[1:]))
+    ways = [math.dist(one[:2], other[:2]) for one, other in pairs]
+    turns = [abs(math.remainder(other[2] - one[2], 2 * math.pi)) for one, other in pairs]
+    before = list(itertools.accumulate(ways if any(ways) else turns, initial=0.0))
+    return sum(ways), [part / before[-1] if before[-1] else 1.0 for part in before]
+
+
+def leg_seconds(environment: Environment, leg: Leg, way: float) -> float:
+    """How long a step takes: its way or its turn, whichever takes longer."""
+    bins = abs(leg.primitive.to - leg.primitive.start)
+    turn = min(bins, environment.headings - bins) / environment.headings
+    return max(way * NANO / environment.speed, turn * 8 * environment.turn45 / NANO)
 
 
 def heading_angle(heading: int, headings: int) -> float:
