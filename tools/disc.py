@@ -27,3 +27,14 @@ def obstacle(costs: list[list[int]], least: int, cell: int, radius: int, x: int,
 def leaves(width: int, height: int, cell: int, radius: int, x: int, y: int) -> bool:
     """Whether the disc reaches beyond the edge of a map of this many cells."""
     return gap(min(x + 1, y + 1, width - x, height - y), cell) < 2 * radius
+
+
+def overlapped(cell: int, radius: int, x: int, y: int) -> list[tuple[int, int]]:
+    """The cells that the disc overlaps where its centre is at this point, in nanometres; the centre's own is one of them."""
+    found = []
+    for row in range((y - radius) // cell, (y + radius) // cell + 1):
+        for column in range((x - radius) // cell, (x + radius) // cell + 1):
+            aside, above = max(column * cell - x, 0, x - (column + 1) * cell), max(row * cell - y, 0, y - (row + 1) * cell)
+            if aside**2 + above**2 < radius**2 or (column, row) == (x // cell, y // cell):
+                found.append((column, row))
+    return found
