@@ -1,7 +1,7 @@
 //! What the program sees of the outside.
-ghost use Rattle.std.specs.Prelude.{◌≡◌, ◌≤◌, ◌^◌, [], OnOk, OnErr, IfSome, IsErrOf, vec_len};
-ghost use Rattle.sbpl_desk.specs.Desk.{Appends, AppendsPrefix, DeskState, Keeps, ReadFailed, ReadsOnly, TooLongWhere};
-ghost use Rattle.sbpl_desk.specs.Desk.{WriteFailed, WritesOnly};
+ghost use Rattle.std.specs.Prelude.{◌≡◌, ◌≢◌, ◌≤◌, ◌^◌, true, false, [], OnOk, OnErr, IfSome, IsErrOf, codes, vec_len};
+ghost use Rattle.sbpl_desk.specs.Desk.{Appends, AppendsPrefix, DeskState, HearsEnd, HearsLine, HearsNothing, HearsOnly, Keeps};
+ghost use Rattle.sbpl_desk.specs.Desk.{ReadFailed, ReadsOnly, TooLongWhere, WriteFailed, WritesOnly};
 ghost use Rattle.sbpl_desk.specs.declared.desk.ReadStop.TheVariants as ReadStops;
 ghost use Rattle.sbpl_desk.specs.declared.desk.WriteStop.TheVariants as WriteStops;
 
@@ -10,6 +10,9 @@ use thiserror::Error;
 
 /// The most bytes that a read gives.
 pub(crate) const MOST: usize = 1 << 30;
+
+/// The most bytes of a line that is heard whole. Of a longer line these are heard, and one more, which tells that it was longer.
+pub const MOST_OF_LINE: usize = 4096;
 
 /// Why a read stopped.
 #[derive(Clone, Copy, Debug, PartialEq, Eq, Error)]
@@ -85,12 +88,15 @@ impl<T: Drop> From<AllocFailed<T>> for WriteStop {
     }
 }
 
-/// The outside, by names that are texts. The name `-` is the standard output.
+/// The outside, by names that are texts, and the standard input. The name `-` is the standard output; failed reads of the standard
+/// input are counted under it too.
 ///
-/// A clause on bytes holds where the desk tells them. The clauses on the counts hold for every desk.
+/// A clause on bytes or lines holds where the desk tells them. The clauses on the counts and on the end of the input hold for every
+/// desk.
 pub trait Desk {
     /// What each name holds, and the bytes written under it so far: `None` where the desk doesn't tell, or holds no such name.
-    /// And how many reads and how many writes of each name failed. A count that stands at 2^64 - 1 stays there.
+    /// And how many reads and how many writes of each name failed. A count that stands at 2^64 - 1 stays there. And the lines of
+    /// the standard input that were heard so far, `None` where the desk doesn't tell, and whether it was heard to its end.
     ghost state: { Self → DeskState };
 
     /// Puts the bytes that `name` holds, 2^30 at most, into `into` in place of what is there.
@@ -123,6 +129,28 @@ pub trait Desk {
             ((state self.new).written name.now) }
         ensures failed { IsErrOf result WriteStop.Failed → WriteFailed (state self.old) (state self.new) name.now }
         ensures frame { WritesOnly (λ other. other ≡ name.now) (state self.old) (state self.new) };
+
+    /// Puts the next line of the standard input into `into` in place of what is there, and answers `true`; or answers `false` at
+    /// the end of the input. It waits until a line has come, and no longer.
+    ///
+    /// A line is its bytes up to its line feed, without it; one carriage return right before the line feed is dropped. An input
+    /// that ends within a line has that line too. Of a line of more than `MOST_OF_LINE` bytes (4096) the first 4097 are given, so
+    /// that a caller can tell that it was longer; the next call goes on after its line feed. Once the end was answered, every call
+    /// answers it.
+    ///
+    /// After `false` and after a refusal `into` is empty. A call after a refusal goes on where that one stopped.
+    ///
+    /// # Errors
+    ///
+    /// - `Failed` only where the count of failed reads of the name `-` rose.
+    /// - `NoMemory` where memory ran out.
+    fn hear(&mut self, into: &mut Vec<u8>) -> Result<bool, ReadStop>
+        ensures line { result ≡ Ok true → HearsLine (state self.old) (state self.new) into.new.items }
+        ensures end { result ≡ Ok false → HearsEnd (state self.old) (state self.new) into.new.items }
+        ensures refused { OnErr result (HearsNothing (state self.old) (state self.new) into.new.items) }
+        ensures failed { IsErrOf result ReadStop.Failed → ReadFailed (state self.old) (state self.new) (codes "-") }
+        ensures short { result ≢ Err ReadStop.TooLong }
+        ensures frame { HearsOnly (state self.old) (state self.new) };
 
     /// What was in the way in the last call that failed.
     fn trouble(&self) -> Trouble {

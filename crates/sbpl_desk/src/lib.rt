@@ -1,10 +1,11 @@
-//! The outside of the program: files that are read, and outputs that are written.
+//! The outside of the program: files that are read, outputs that are written, and lines that are heard.
 #![tactic(auto)]
 
 mod desk;
+mod line;
 mod memory;
 mod real;
 
-pub use desk::{Desk, ReadStop, Trouble, WriteStop};
+pub use desk::{Desk, MOST_OF_LINE, ReadStop, Trouble, WriteStop};
 pub use memory::MemoryDesk;
 pub use real::RealDesk;

@@ -1,13 +1,16 @@
-//! The real outside: files, and the standard output.
-ghost use Rattle.std.specs.Prelude.{◌≡◌, ◌≢◌, ◌≤◌, ◌<◌, ◌^◌, ◌++◌, [], length, take, Err, IfOk};
+//! The real outside: files, the standard output and the standard input.
+ghost use Rattle.std.specs.Prelude.{◌≡◌, ◌≢◌, ◌≤◌, ◌<◌, ◌^◌, ◌++◌, [], length, take, true, false, Ok, Err, IfOk};
 ghost use Rattle.std.specs.Prelude.{IfSome, OnOk, OnErr, vec_len};
-ghost use Rattle.std.specs.Io.KnownBytes.{Consumes, IsAtEnd};
+ghost use Rattle.std.specs.Io.KnownBytes.{Consumes, IsAtEnd, prepend_known};
 ghost use Rattle.sbpl_desk.specs.Counts.{read_count, write_count};
 ghost use Rattle.sbpl_desk.specs.Desk.{Appends, AppendsPrefix, TooLongWhere};
-ghost use Rattle.sbpl_desk.specs.Real.{real_read_faults, real_state, real_write_faults};
+ghost use Rattle.sbpl_desk.specs.Hearing.{GivesLine};
+ghost use Rattle.sbpl_desk.specs.Real.{real_is_over, real_read_faults, real_state, real_write_faults};
 
-use crate::desk::MOST;
+use crate::desk::{MOST, MOST_OF_LINE};
+use crate::line::{feed_at, take_line};
 use crate::{Desk, ReadStop, Trouble, WriteStop};
+use std::alloc::Allocator;
 use std::fs::{Metadata, OpenFile, OpenOptions};
 use std::io::{Read, Write};
 use std::os::unix::fs::MetadataExt;
@@ -43,7 +46,7 @@ fn trouble_of(error: &io::Error) -> Trouble {
     }
 }
 
-/// The files of the system and the standard output. It tells no bytes.
+/// The files of the system, the standard output and the standard input. It tells no bytes and no lines.
 ///
 /// A file that was read, or that is written under another name, is not written: the write fails, and the file stays as it is. Files
 /// are known by what they are, so a link is the file that it leads to.
@@ -60,6 +63,9 @@ pub struct RealDesk<R: Files + Print + Alloc> {
     trouble: Trouble,
     read_faults: u64,
     write_faults: u64,
+    /// What was read of the standard input and is still to be heard.
+    coming: Vec<u8, R::A>,
+    is_over: bool,
 }
 
 impl<R: Files + Print + Alloc> RealDesk<R> {
@@ -68,9 +74,11 @@ impl<R: Files + Print + Alloc> RealDesk<R> {
     pub fn new(rt: R) -> RealDesk<R>
         ensures reads { real_read_faults result ≡ 0 }
         ensures writes { real_write_faults result ≡ 0 }
+        ensures open { real_is_over result ≡ false }
     {
         let begun = Vec::new(rt.alloc());
         let used = Vec::new(rt.alloc());
+        let coming = Vec::new(rt.alloc());
         RealDesk {
             rt,
             begun,
@@ -78,15 +86,17 @@ impl<R: Files + Print + Alloc> RealDesk<R> {
             trouble: Trouble::Untold,
             read_faults: 0,
             write_faults: 0,
+            coming,
+            is_over: false,
         }
     }
 }
 
 /// One read, whose bytes are appended. It tells how many there are.
-fn read_piece<F: Read>(
+fn read_piece<F: Read, A: Allocator>(
     file: &mut F,
     piece: &mut [u8],
-    into: &mut Vec<u8>,
+    into: &mut Vec<u8, A>,
 ) -> Result<usize, ReadStop>
     ensures appended { IfOk result (λ count. into.new.items ≡ into.old.items ++ take count piece.new) }
     ensures consumed { IfOk result (λ count. Consumes (F.remaining file.old) (F.remaining file.new) (take count piece.new)) }
@@ -116,6 +126,42 @@ fn read_whole<F: Read>(file: &mut F, into: &mut Vec<u8>) -> Result<(), ReadStop>
         }
     }
     Err(ReadStop::TooLong)
+}
+
+/// Takes the next line of an input from what was read of it, and reads on as long as no line is there. It answers false at the end
+/// of the input.
+fn hear_line<F: Read, A: Allocator>(
+    input: &mut F,
+    coming: &mut Vec<u8, A>,
+    into: &mut Vec<u8>,
+) -> Result<bool, ReadStop>
+    requires empty { into.old.items ≡ [] }
+    ensures line { result ≡ Ok true → GivesLine (prepend_known coming.old.items (F.remaining input.old))
+        (prepend_known coming.new.items (F.remaining input.new)) into.new.items }
+    ensures end { result ≡ Ok false → IsAtEnd (prepend_known coming.old.items (F.remaining input.old)) }
+    ensures none { result ≡ Ok false → into.new.items ≡ [] }
+    ensures bounded { vec_len into.new ≤ 4097 }
+    ensures refused { OnErr result (into.new.items ≡ []) }
+    ensures short { result ≢ Err ReadStop.TooLong }
+{
+    let mut piece = [0u8; PIECE];
+    for _ in 0..u64::MAX {
+        if let Some(at) = feed_at(coming) {
+            take_line(coming, at + 1, into)?;
+            return Ok(true);
+        }
+        // Of a line that is longer no more is heard, whatever ends it.
+        coming.truncate(MOST_OF_LINE + 3);
+        if read_piece(input, &mut piece, coming)? == 0 {
+            let end = coming.len();
+            if end == 0 {
+                return Ok(false);
+            }
+            take_line(coming, end, into)?;
+            return Ok(true);
+        }
+    }
+    Err(ReadStop::Failed)
 }
 
 /// Writes all of the bytes, in as many calls as it takes.
@@ -225,7 +271,7 @@ fn open_output<R: Files + Alloc>(
     opened
 }
 
-impl<R: Files + Print + Alloc> Desk for RealDesk<R> {
+impl<R: Files + Print + Input + Alloc> Desk for RealDesk<R> {
     ghost state = { λ desk. real_state desk };
 
     fn read(&mut self, name: &str, into: &mut Vec<u8>) -> Result<(), ReadStop>
@@ -234,6 +280,7 @@ impl<R: Files + Print + Alloc> Desk for RealDesk<R> {
         ensures reads { real_read_faults self.new ≡ read_count result (real_read_faults self.old) }
         ensures counts { real_read_faults self.old ≤ real_read_faults self.new }
         ensures writes { real_write_faults self.new ≡ real_write_faults self.old }
+        ensures over { real_is_over self.new ≡ real_is_over self.old }
     {
         into.clear();
         self.trouble = Trouble::Untold;
@@ -251,6 +298,7 @@ impl<R: Files + Print + Alloc> Desk for RealDesk<R> {
         ensures reads { real_read_faults self.new ≡ real_read_faults self.old }
         ensures writes { real_write_faults self.new ≡ write_count result (real_write_faults self.old) }
         ensures counts { real_write_faults self.old ≤ real_write_faults self.new }
+        ensures over { real_is_over self.new ≡ real_is_over self.old }
     {
         self.trouble = Trouble::Untold;
         let result = if name == "-" {
@@ -269,6 +317,33 @@ impl<R: Files + Print + Alloc> Desk for RealDesk<R> {
         };
         if let Err(WriteStop::Failed) = result {
             self.write_faults = self.write_faults.saturating_add(1);
+        }
+        result
+    }
+
+    fn hear(&mut self, into: &mut Vec<u8>) -> Result<bool, ReadStop>
+        ensures bounded { vec_len into.new ≤ 4097 }
+        ensures line { result ≡ Ok true → real_is_over self.old ≡ false }
+        ensures open { result ≡ Ok true → real_is_over self.new ≡ false }
+        ensures over { result ≡ Ok false → real_is_over self.new ≡ true }
+        ensures end { result ≡ Ok false → into.new.items ≡ [] }
+        ensures refused { OnErr result (into.new.items ≡ []) }
+        ensures kept { OnErr result (real_is_over self.new ≡ real_is_over self.old) }
+        ensures short { result ≢ Err ReadStop.TooLong }
+        ensures reads { real_read_faults self.new ≡ read_count result (real_read_faults self.old) }
+        ensures counts { real_read_faults self.old ≤ real_read_faults self.new }
+        ensures writes { real_write_faults self.new ≡ real_write_faults self.old }
+    {
+        into.clear();
+        self.trouble = Trouble::Untold;
+        if self.is_over {
+            return Ok(false);
+        }
+        let result = hear_line(&mut self.rt.reader(), &mut self.coming, into);
+        match result {
+            Ok(is_line) => self.is_over = !is_line,
+            Err(ReadStop::Failed) => self.read_faults = self.read_faults.saturating_add(1),
+            Err(_) => {}
         }
         result
     }

@@ -84,11 +84,11 @@ fn start_given<R: AllocGlobal + Threads + Wait + Clock + Sync, D: Desk, E: io::W
     }
 }
 
-/// Does what the program's words ask for, at the system's files and standard output, and answers the status, which is one of
-/// those that the help lists. Where the job was not done, a line on `err` says why. Where `err` is a terminal, the newest path is
-/// shown on its last line while the planner works.
+/// Does what the program's words ask for, at the system's files, standard output and standard input, and answers the status, which
+/// is one of those that the help lists. Where the job was not done, a line on `err` says why. Where `err` is a terminal, the newest
+/// path is shown on its last line while the planner works.
 pub fn start<
-    R: Env + Files + Print + AllocGlobal + Threads + Wait + Clock + Sync,
+    R: Env + Files + Print + Input + AllocGlobal + Threads + Wait + Clock + Sync,
     E: io::Write + IsTerminal + Send,
 >(rt: &R, err: &mut E) -> u8
     ensures status { IsStatus result }

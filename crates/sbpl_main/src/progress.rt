@@ -135,6 +135,10 @@ impl<R: Wait, D: Desk, E: io::Write> Desk for ConsoleDesk<'_, '_, '_, R, D, E> {
         self.desk.write(name, bytes)
     }
 
+    fn hear(&mut self, into: &mut Vec<u8>) -> Result<bool, ReadStop> {
+        self.desk.hear(into)
+    }
+
     fn trouble(&self) -> Trouble {
         self.desk.trouble()
     }

@@ -25,6 +25,8 @@ reads_on s t u p q = record {
   written = λ name. q.written name ∙ p.written name;
   reads = λ name. let a = p.reads name in let b = q.reads name in omega arith;
   writes = λ name. let a = p.writes name in let b = q.writes name in omega arith;
+  heard = q.heard ∙ p.heard;
+  over = q.over ∙ p.over;
 }
 
 -- a read that failed later had failed before

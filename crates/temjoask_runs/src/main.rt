@@ -58,7 +58,7 @@ fn edit_line<R: Files + Print + AllocGlobal>(rt: &R, line: &str) -> io::Result<(
 }
 
 /// Runs the program for each prefix of a text, which it writes to `edited`.
-fn run_prefixes<R: Files + Print + AllocGlobal + Threads + Wait + Sync>(
+fn run_prefixes<R: Files + Print + Input + AllocGlobal + Threads + Wait + Sync>(
     rt: &R,
     text: &str,
     words: &str,
@@ -71,7 +71,7 @@ fn run_prefixes<R: Files + Print + AllocGlobal + Threads + Wait + Sync>(
 }
 
 /// Runs the program for the prefixes of a file, as in `NAME: WORDS`.
-fn prefixes_line<R: Files + Print + AllocGlobal + Threads + Wait + Sync>(
+fn prefixes_line<R: Files + Print + Input + AllocGlobal + Threads + Wait + Sync>(
     rt: &R,
     line: &str,
 ) -> io::Result<()> {
@@ -94,7 +94,7 @@ fn play_file<R: Files + Print + AllocGlobal>(rt: &R, verb: &str, rest: &str) -> 
 }
 
 /// Does what a line says.
-fn play<R: Files + Print + AllocGlobal + Threads + Wait + Sync>(
+fn play<R: Files + Print + Input + AllocGlobal + Threads + Wait + Sync>(
     rt: &R,
     verb: &str,
     rest: &str,
@@ -109,7 +109,7 @@ fn play<R: Files + Print + AllocGlobal + Threads + Wait + Sync>(
 }
 
 /// Prints a line of a session, and does what it says.
-fn play_line<R: Files + Print + AllocGlobal + Threads + Wait + Sync>(
+fn play_line<R: Files + Print + Input + AllocGlobal + Threads + Wait + Sync>(
     rt: &R,
     line: &str,
 ) -> io::Result<()> {

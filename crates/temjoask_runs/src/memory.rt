@@ -60,7 +60,7 @@ fn show_outputs<R: Print>(rt: &R, line: &str, desk: &MemoryDesk) -> io::Result<(
 }
 
 /// Runs the program on the words of a line at a desk with faults, and prints what it writes there.
-fn run_at<R: Files + Print + AllocGlobal + Threads + Wait + Sync>(
+fn run_at<R: Files + Print + Input + AllocGlobal + Threads + Wait + Sync>(
     rt: &R,
     faults: &str,
     line: &str,
@@ -76,7 +76,7 @@ fn run_at<R: Files + Print + AllocGlobal + Threads + Wait + Sync>(
 }
 
 /// Does what a line says, as in `FAULTS: WORDS`.
-pub(crate) fn memory_line<R: Files + Print + AllocGlobal + Threads + Wait + Sync>(
+pub(crate) fn memory_line<R: Files + Print + Input + AllocGlobal + Threads + Wait + Sync>(
     rt: &R,
     line: &str,
 ) -> io::Result<()> {

@@ -53,7 +53,7 @@ pub(crate) fn tell<R: Print>(rt: &R, status: u8, error: &[u8]) -> io::Result<()>
 }
 
 /// Runs the program on the words of a line at the system's files, and prints its status, and its message where that is asked for.
-pub(crate) fn run_line<R: Files + Print + AllocGlobal + Threads + Wait + Sync>(
+pub(crate) fn run_line<R: Files + Print + Input + AllocGlobal + Threads + Wait + Sync>(
     rt: &R,
     line: &str,
     tells: bool,

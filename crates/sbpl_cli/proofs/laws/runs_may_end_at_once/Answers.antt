@@ -18,7 +18,14 @@ at_once keeps shows words desk published =
       headline = λ _. shows words desk desk published published 9 kept;
       statuses = refl;
       unpublished = λ _. refl;
-      frame = record { held = λ name. refl; others = λ name no. refl; reads = λ name. omega arith; writes = λ name. omega arith };
+      frame = record {
+        held = λ name. refl;
+        others = λ name no. refl;
+        reads = λ name. omega arith;
+        writes = λ name. omega arith;
+        heard = refl;
+        over = refl;
+      };
     }
 
 pub returns : goal.returns
