@@ -28,6 +28,7 @@ pub use sbpl_cfg::{
     Message, NoMemory, next_token, plain_message, print_milli, read_whole, with_limit,
 };
 pub use values::{
-    USUAL_STATES, back_of, budget_of, milli_by, planner_of, radius_of, states_by, workers_of,
+    USUAL_STATES, back_of, budget_in, budget_of, milli_by, milli_in, planner_of, radius_of,
+    states_by, workers_of,
 };
 pub use words::{Command, Setting, is_plain, setting_of, spaced_words, words_part_into_forms};

@@ -1,6 +1,6 @@
 //! Values of settings as numbers, and how a path is to be searched.
 
-ghost use Rattle.std.specs.Prelude.{◌≡◌, ◌≤◌, ◌^◌, false, IfOk, Some, option_map};
+ghost use Rattle.std.specs.Prelude.{◌≡◌, ◌≤◌, ◌^◌, false, IfOk, IfSome, Some, option_map};
 ghost use Rattle.sbpl_cfg.specs.sbpl_fixed.Numbers.{nano_of, whole_of};
 ghost use Rattle.sbpl_job.specs.declared.words.Setting.TheVariants as Settings;
 ghost use Rattle.sbpl_job.specs.Found.{set_in};
@@ -12,7 +12,7 @@ ghost use Rattle.sbpl_job.specs.Words.{Names, text_of};
 use crate::job::{JobFault, Planner, SearchJob};
 use crate::name::Name;
 use clap::ArgMatches;
-use sbpl_cfg::{read_nano, read_whole};
+use sbpl_cfg::{NumFault, read_nano, read_whole};
 
 /// The greatest radius, in nanometres.
 const MOST_RADIUS: i64 = 1_000_000_000_000;
@@ -51,27 +51,38 @@ pub fn radius_of(matches: &ArgMatches) -> Result<u64, JobFault>
     }
 }
 
+/// The thousandths that a number of billionths is exactly, in their range; `None` where it is no such number, or none was read.
+pub fn milli_in(nano: Result<i64, NumFault>, low: u32, high: u32) -> Option<u32>
+    ensures milli { result ≡ milli_in low high nano }
+    ensures range { IfSome result (λ m. (low ≤ m) × (m ≤ high)) }
+{
+    match nano {
+        Ok(nano) if nano >= 0 => milli_of(nano as u64, low, high),
+        _ => None,
+    }
+}
+
+/// The thousandths that `nano` billionths are, in their range.
+fn milli_of(nano: u64, low: u32, high: u32) -> Option<u32>
+    ensures milli { result ≡ milli_from low high nano }
+    ensures range { IfSome result (λ m. (low ≤ m) × (m ≤ high)) }
+{
+    let milli = nano / 1_000_000;
+    if nano % 1_000_000 == 0 && u64::from(low) <= milli && milli <= u64::from(high) {
+        Some(milli as u32)
+    } else {
+        None
+    }
+}
+
 /// A number of thousandths in its range, which a decimal says exactly.
 fn read_milli(text: &str, low: u32, high: u32) -> Result<u32, JobFault>
     ensures milli { Names (milli_in low high (nano_of text.now)) result }
     ensures range { IfOk result (λ m. (low ≤ m) × (m ≤ high)) }
 {
-    match read_nano(text.as_bytes()) {
-        Ok(nano) if nano >= 0 => milli_of(nano as u64, low, high),
-        _ => Err(JobFault::Words),
-    }
-}
-
-/// The thousandths that `nano` billionths are, in their range.
-fn milli_of(nano: u64, low: u32, high: u32) -> Result<u32, JobFault>
-    ensures milli { Names (milli_from low high nano) result }
-    ensures range { IfOk result (λ m. (low ≤ m) × (m ≤ high)) }
-{
-    let milli = nano / 1_000_000;
-    if nano % 1_000_000 == 0 && u64::from(low) <= milli && milli <= u64::from(high) {
-        Ok(milli as u32)
-    } else {
-        Err(JobFault::Words)
+    match milli_in(read_nano(text.as_bytes()), low, high) {
+        Some(milli) => Ok(milli),
+        None => Err(JobFault::Words),
     }
 }
 
@@ -88,14 +99,25 @@ pub fn milli_by(text: Option<&str>, default: u32, low: u32, high: u32) -> Result
     }
 }
 
+/// A number of expansions, 1 to 2^30; `None` where it is no such number, or none was read.
+pub fn budget_in(read: Result<i64, NumFault>) -> Option<u64>
+    ensures budget { result ≡ budget_in read }
+    ensures range { IfSome result (λ b. (1 ≤ b) × (b ≤ 2 ^ 30)) }
+{
+    match read {
+        Ok(budget) if budget >= 1 && budget <= MOST_BUDGET => Some(budget as u64),
+        _ => None,
+    }
+}
+
 /// A number of expansions, 1 to 2^30.
 fn read_budget(text: &str) -> Result<u64, JobFault>
     ensures budget { Names (budget_in (whole_of text.now)) result }
     ensures range { IfOk result (λ b. (1 ≤ b) × (b ≤ 2 ^ 30)) }
 {
-    match read_whole(text.as_bytes()) {
-        Ok(budget) if budget >= 1 && budget <= MOST_BUDGET => Ok(budget as u64),
-        _ => Err(JobFault::Words),
+    match budget_in(read_whole(text.as_bytes())) {
+        Some(budget) => Ok(budget),
+        None => Err(JobFault::Words),
     }
 }
 

@@ -2,7 +2,7 @@ pub mod Cells
 mod Lines
 mod Going
 mod Kept
-mod LineLaws
+pub mod LineLaws
 mod MapLaws
 mod PrintedText
 mod TextLaws

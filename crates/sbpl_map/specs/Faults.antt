@@ -1,7 +1,9 @@
--- What the program prints of a fault of a change file.
+-- What the program prints of a fault of a change file, and of one line.
 use Rattle.std.specs.Prelude.{ℕ, List, codes}
 use Rattle.sbpl_map.specs.declared.fault.ChangeFault.{ChangeFault}
 use Rattle.sbpl_map.specs.declared.fault.ChangeFault.TheVariants.{Word, Number, Range, OffMap, NoReplan, NoMemory}
+use Rattle.sbpl_map.specs.declared.line_fault.LineFault.{LineFault}
+use Rattle.sbpl_map.specs.declared.line_fault.LineFault.TheVariants as fault
 
 -- its number
 abbrev pub number_of : ChangeFault → ℕ
@@ -29,3 +31,10 @@ line_of (Range line) = line
 line_of (OffMap line) = line
 line_of (NoReplan line) = line
 line_of NoMemory = 0
+
+-- the name of the fault of one line
+abbrev pub line_fault_name : LineFault → List ℕ
+line_fault_name fault.Word = codes "Word"
+line_fault_name fault.Number = codes "Number"
+line_fault_name fault.Range = codes "Range"
+line_fault_name fault.OffMap = codes "OffMap"

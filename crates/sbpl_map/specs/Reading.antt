@@ -12,6 +12,8 @@ use Rattle.sbpl_map.specs.Fields.{fields}
 use Rattle.sbpl_map.specs.declared.write.Write.{Write}
 use Rattle.sbpl_map.specs.declared.said.Said.{Said}
 use Rattle.sbpl_map.specs.declared.said.Said.TheVariants.{Nothing, Cell, Start, Replan}
+use Rattle.sbpl_map.specs.declared.line_fault.LineFault.{LineFault}
+use Rattle.sbpl_map.specs.declared.line_fault.LineFault.TheVariants as fault
 use Rattle.sbpl_map.specs.declared.fault.ChangeFault.{ChangeFault}
 use Rattle.sbpl_map.specs.declared.fault.ChangeFault.TheVariants.{Word, Number, Range, OffMap, NoReplan}
 
@@ -33,19 +35,19 @@ abbrev pub Three : Type 0
 Three = ℕ × ℕ × ℕ
 
 -- the numbers, unless one was out of range or the cell is off the map
-abbrev pub on_map : CellMap → ℕ → Option ℕ → Option ℕ → Option ℕ → Result Three ChangeFault
-on_map m at None y z = Err (Range at)
-on_map m at (Some x) None z = Err (Range at)
-on_map m at (Some x) (Some y) None = Err (Range at)
-on_map m at (Some x) (Some y) (Some z) =
-    if nat_lt x m.width && nat_lt y m.height then Ok (x, y, z) else Err (OffMap at)
+abbrev pub on_map : CellMap → Option ℕ → Option ℕ → Option ℕ → Result Three LineFault
+on_map m None y z = Err fault.Range
+on_map m (Some x) None z = Err fault.Range
+on_map m (Some x) (Some y) None = Err fault.Range
+on_map m (Some x) (Some y) (Some z) =
+    if nat_lt x m.width && nat_lt y m.height then Ok (x, y, z) else Err fault.OffMap
 
 -- the numbers, where three were read
-abbrev pub measured : (states : ℕ) → CellMap → ℕ → (limit : ℕ) → Result ℤ NumFault → Result ℤ NumFault → Result ℤ NumFault
-    → Result Three ChangeFault
-measured states m at limit x y z =
-    if lacks_form x || (lacks_form y || lacks_form z) then Err (Number at)
-    else on_map m at (in_range states x) (in_range states y) (in_range limit z)
+abbrev pub measured : (states : ℕ) → CellMap → (limit : ℕ) → Result ℤ NumFault → Result ℤ NumFault → Result ℤ NumFault
+    → Result Three LineFault
+measured states m limit x y z =
+    if lacks_form x || (lacks_form y || lacks_form z) then Err fault.Number
+    else on_map m (in_range states x) (in_range states y) (in_range limit z)
 
 -- the fields of a list that has just three
 abbrev pub three : List (List ℕ) → Option (List ℕ × List ℕ × List ℕ)
@@ -56,22 +58,29 @@ three (x ∷ y ∷ z ∷ []) = Some (x, y, z)
 three (x ∷ y ∷ z ∷ d ∷ more) = None
 
 -- the numbers that the three fields after a word give
-abbrev pub numbers : (states : ℕ) → CellMap → ℕ → (limit : ℕ) → Option (List ℕ × List ℕ × List ℕ) → Result Three ChangeFault
-numbers states m at limit None = Err (Word at)
-numbers states m at limit (Some t) = measured states m at limit (whole_of t.0) (whole_of t.1) (whole_of t.2)
+abbrev pub numbers : (states : ℕ) → CellMap → (limit : ℕ) → Option (List ℕ × List ℕ × List ℕ) → Result Three LineFault
+numbers states m limit None = Err fault.Word
+numbers states m limit (Some t) = measured states m limit (whole_of t.0) (whole_of t.1) (whole_of t.2)
 
-abbrev pub cell_said : Result Three ChangeFault → Result Said ChangeFault
-cell_said (Ok n) = Ok (Cell (record { x = n.0; y = n.1; cost = n.2 }))
-cell_said (Err e) = Err e
+-- the fault of the line with this number
+abbrev pub at_line : ℕ → LineFault → ChangeFault
+at_line at fault.Word = Word at
+at_line at fault.Number = Number at
+at_line at fault.Range = Range at
+at_line at fault.OffMap = OffMap at
 
-abbrev pub start_said : Result Three ChangeFault → Result Said ChangeFault
-start_said (Ok n) = Ok (Start (record { x = n.0; y = n.1; t = n.2 }))
-start_said (Err e) = Err e
+abbrev pub cell_said : ℕ → Result Three LineFault → Result Said ChangeFault
+cell_said at (Ok n) = Ok (Cell (record { x = n.0; y = n.1; cost = n.2 }))
+cell_said at (Err f) = Err (at_line at f)
+
+abbrev pub start_said : ℕ → Result Three LineFault → Result Said ChangeFault
+start_said at (Ok n) = Ok (Start (record { x = n.0; y = n.1; t = n.2 }))
+start_said at (Err f) = Err (at_line at f)
 
 -- where the robot is, where a line can say so
 abbrev pub started : (states : ℕ) → CellMap → Option ℕ → ℕ → List (List ℕ) → Result Said ChangeFault
 started states m None at more = Err (Word at)
-started states m (Some headings) at more = start_said (numbers states m at headings (three more))
+started states m (Some headings) at more = start_said at (numbers states m headings (three more))
 
 -- the batch ends where nothing stands after its word
 abbrev pub ended : ℕ → List (List ℕ) → Result Said ChangeFault
@@ -82,7 +91,7 @@ ended at (x ∷ more) = Err (Word at)
 unfoldable pub judged : (states : ℕ) → CellMap → Option ℕ → ℕ → List (List ℕ) → Result Said ChangeFault
 judged states m headings at [] = Ok Nothing
 judged states m headings at (word ∷ more) =
-    if bytes_eq word (codes "cell") then cell_said (numbers states m at 256 (three more))
+    if bytes_eq word (codes "cell") then cell_said at (numbers states m 256 (three more))
     else (if bytes_eq word (codes "start") then started states m headings at more
     else (if bytes_eq word (codes "replan") then ended at more else Err (Word at)))
 

@@ -2,10 +2,12 @@
 
 ghost use Rattle.std.specs.Prelude.{◌≡◌, ◌<◌, Some, option_map, IfOk, IfSome};
 ghost use Rattle.sbpl_map.specs.Fields.{fields};
-ghost use Rattle.sbpl_map.specs.Reading.{cell_said, in_range, judged, lacks_form, measured, numbers, on_map, ended, started, three};
+ghost use Rattle.sbpl_map.specs.Reading.{at_line, cell_said, ended, in_range, judged, lacks_form, measured, numbers, on_map};
+ghost use Rattle.sbpl_map.specs.Reading.{started, three};
 
 use crate::fault::ChangeFault;
 use crate::line::first_field;
+use crate::line_fault::LineFault;
 use crate::map::Map;
 use crate::said::Said;
 use crate::write::Write;
@@ -15,7 +17,7 @@ use sbpl_cfg::{NumFault, Place, read_whole};
 const COSTS: u32 = 256;
 
 /// Whether a text does not have the form of a number.
-fn lacks_form(read: Result<i64, NumFault>) -> bool
+pub fn lacks_form(read: Result<i64, NumFault>) -> bool
     ensures form { result ≡ lacks_form read }
 {
     match read {
@@ -35,21 +37,27 @@ fn in_range(read: Result<i64, NumFault>, limit: u32) -> Option<u32>
     }
 }
 
+/// The fault of the line with this number.
+fn at_line(number: u64, fault: LineFault) -> ChangeFault
+    ensures fault { result ≡ at_line number fault }
+{
+    match fault {
+        LineFault::Word => ChangeFault::Word(number),
+        LineFault::Number => ChangeFault::Number(number),
+        LineFault::Range => ChangeFault::Range(number),
+        LineFault::OffMap => ChangeFault::OffMap(number),
+    }
+}
+
 /// A cell and a third number, or `OffMap` where the cell is not on the map.
-fn on_map(
-    map: &Map,
-    number: u64,
-    x: u32,
-    y: u32,
-    third: u32,
-) -> Result<(u32, u32, u32), ChangeFault>
-    ensures three { result ≡ on_map map.now number (Some x) (Some y) (Some third) }
+fn on_map(map: &Map, x: u32, y: u32, third: u32) -> Result<(u32, u32, u32), LineFault>
+    ensures three { result ≡ on_map map.now (Some x) (Some y) (Some third) }
     ensures third { IfOk result (λ n. n.2 ≡ third) }
 {
     if x < map.width() && y < map.height() {
         Ok((x, y, third))
     } else {
-        Err(ChangeFault::OffMap(number))
+        Err(LineFault::OffMap)
     }
 }
 
@@ -57,26 +65,25 @@ fn on_map(
 /// a row that a line names is below `states`, the limit of states, and the third number below `limit`.
 fn measured(
     map: &Map,
-    number: u64,
     limit: u32,
     x: Result<i64, NumFault>,
     y: Result<i64, NumFault>,
     third: Result<i64, NumFault>,
     states: u32,
-) -> Result<(u32, u32, u32), ChangeFault>
-    ensures three { result ≡ measured states map.now number limit x y third }
+) -> Result<(u32, u32, u32), LineFault>
+    ensures three { result ≡ measured states map.now limit x y third }
     ensures small { IfOk result (λ n. n.2 < limit) }
 {
     if lacks_form(x) || lacks_form(y) || lacks_form(third) {
-        return Err(ChangeFault::Number(number));
+        return Err(LineFault::Number);
     }
     match (
         in_range(x, states),
         in_range(y, states),
         in_range(third, limit),
     ) {
-        (Some(x), Some(y), Some(third)) => on_map(map, number, x, y, third),
-        _ => Err(ChangeFault::Range(number)),
+        (Some(x), Some(y), Some(third)) => on_map(map, x, y, third),
+        _ => Err(LineFault::Range),
     }
 }
 
@@ -93,38 +100,43 @@ fn three_fields(line: &[u8]) -> Option<(&[u8], &[u8], &[u8])>
     }
 }
 
-/// The numbers of the fields after a word that wants three: a cell, and a third number below the limit.
-fn numbers(
-    map: &Map,
-    number: u64,
-    limit: u32,
+/// The numbers of the fields that stand after the word of a line that wants three: a cell of the map, whose column and row are
+/// below `states`, the limit of states, and a third number below `limit`. The fault is `Word` where the fields are not three,
+/// otherwise `Number` where one is no whole number, otherwise `Range` where one is outside its range, otherwise `OffMap`. No
+/// memory is taken.
+pub fn read_three(
     line: &[u8],
+    map: &Map,
+    limit: u32,
     states: u32,
-) -> Result<(u32, u32, u32), ChangeFault>
-    ensures three { result ≡ numbers states map.now number limit (three (fields line.now)) }
+) -> Result<(u32, u32, u32), LineFault>
+    ensures three { result ≡ numbers states map.now limit (three (fields line.now)) }
     ensures small { IfOk result (λ n. n.2 < limit) }
 {
     match three_fields(line) {
         Some((x, y, third)) => measured(
             map,
-            number,
             limit,
             read_whole(x),
             read_whole(y),
             read_whole(third),
             states,
         ),
-        None => Err(ChangeFault::Word(number)),
+        None => Err(LineFault::Word),
     }
 }
 
 /// The write of the fields after the word of a cell.
 fn written(map: &Map, number: u64, line: &[u8], states: u32) -> Result<Said, ChangeFault>
-    ensures said { result ≡ cell_said (numbers states map.now number 256 (three (fields line.now))) }
+    ensures said { result ≡ cell_said number (numbers states map.now 256 (three (fields line.now))) }
 {
-    let (x, y, cost) = numbers(map, number, COSTS, line, states)?;
-    let cost = cost as u8;
-    Ok(Said::Cell(Write { x, y, cost }))
+    match read_three(line, map, COSTS, states) {
+        Ok((x, y, cost)) => {
+            let cost = cost as u8;
+            Ok(Said::Cell(Write { x, y, cost }))
+        }
+        Err(fault) => Err(at_line(number, fault)),
+    }
 }
 
 /// Where the robot is by the fields after the word of a start, where lines can say so.
@@ -140,8 +152,10 @@ fn started(
     let Some(headings) = headings else {
         return Err(ChangeFault::Word(number));
     };
-    let (x, y, t) = numbers(map, number, headings, line, states)?;
-    Ok(Said::Start(Place { x, y, t }))
+    match read_three(line, map, headings, states) {
+        Ok((x, y, t)) => Ok(Said::Start(Place { x, y, t })),
+        Err(fault) => Err(at_line(number, fault)),
+    }
 }
 
 /// The end of a batch, after whose word nothing may stand.

@@ -58,8 +58,8 @@ fn field_len(line: &[u8]) -> usize
     line.iter().take_while(|b| !is_parting(**b)).count()
 }
 
-/// The first field of a line and what stands after it, or `None` where there is no field.
-pub(crate) fn first_field(line: &[u8]) -> Option<(&[u8], &[u8])>
+/// The first field of a line and what stands after it, or `None` where there is no field. Spaces and tabs separate fields.
+pub fn first_field(line: &[u8]) -> Option<(&[u8], &[u8])>
     ensures first { MatchOption result (fields line.now ≡ []) (λ x. fields line.now ≡ x.0.now ∷ fields x.1.now) }
 {
     let start = &line[parting_len(line)..];

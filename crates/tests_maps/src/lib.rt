@@ -22,6 +22,8 @@ mod lattice;
 #[cfg(test)]
 mod lattices;
 #[cfg(test)]
+mod lines;
+#[cfg(test)]
 mod map;
 #[cfg(test)]
 mod passes;

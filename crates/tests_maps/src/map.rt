@@ -14,7 +14,7 @@ use std::test::Fail;
 const STATES: u32 = 8_388_608;
 
 /// The map of an environment file.
-fn map_of(alloc: Global, text: &str) -> Result<Map, Fail> {
+pub(crate) fn map_of(alloc: Global, text: &str) -> Result<Map, Fail> {
     let (env, grid) = read_env(alloc, text.as_bytes(), STATES)?;
     let cells = grid.as_slice().len();
     if cells as u64 == u64::from(env.width) * u64::from(env.height) {

@@ -1,0 +1,3 @@
+pub mod LineLaws
+mod PlanLaws
+mod Ranges
