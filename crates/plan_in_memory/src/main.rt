@@ -131,7 +131,7 @@ fn plan(
     ensures same { OnOk result (StaysTheSame (standing_of session.old) (standing_of session.new)) }
     ensures world { session.new.world ≡ session.old.world }
 {
-    let planned = session.plan(alloc, &ASK, &mut Nobody)?;
+    let planned = session.plan(alloc, &ASK, None, &mut Nobody)?;
     let shown = show(rt, session.world(), trip, &planned.outcome);
     drop(planned);
     Ok(shown?)

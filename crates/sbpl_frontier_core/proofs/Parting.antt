@@ -6,7 +6,7 @@ use Rattle.std.proofs.lemmas.Bool.{cases_eq, true≢false}
 use Rattle.std.proofs.lemmas.List.{get_or-set_other, length-set}
 use Rattle.std.proofs.lemmas.List.Elements.{All-nil, All-push, Contains-append_left, Contains-push}
 use Rattle.sbpl_frontier_rules.specs.sbpl_graph.Network.{Network}
-use Rattle.sbpl_frontier_rules.specs.sbpl_labels.Counts.{AreCounts, Counts}
+use Rattle.sbpl_frontier_rules.specs.sbpl_labels.Counts.{AreCounts, Counts, GrowBy}
 use Rattle.sbpl_frontier_rules.specs.sbpl_labels.Marks.{ChangesRow, Marks, back_of, g_of, states_of}
 use Rattle.sbpl_frontier_rules.specs.sbpl_open.OpenList.{OpenList}
 use Rattle.sbpl_frontier_rules.specs.sbpl_search.Query.{Query}
@@ -53,7 +53,7 @@ pub opening_of : (q : Query) (labels labels' : Marks) (opened opened' : List Boo
     (next : ℕ) (counts counts' : Counts) (s : ℕ)
     → arcs_from q.network state from ≡ [] → MayOpen q (frontier_of q.network labels opened state from out next counts) s
     → ChangesRow labels labels' s (record { g = g_of labels s; v = g_of labels s; back = back_of labels s })
-    → opened' ≡ slice_set opened s true → counts' ≡ record counts { plan = counts.plan + 1; run = counts.run + 1 }
+    → opened' ≡ slice_set opened s true → GrowBy 1 counts counts'
     → IsOpening q (frontier_of q.network labels opened state from out next counts) s
     (frontier_of q.network labels' opened' s 0 out next counts')
 opening_of q labels labels' opened opened' state from out next counts counts' s none_ready may settled marked counted =
@@ -170,8 +170,7 @@ module _ {q : Query} {opening : Marks} {before : Counts} {keeps : Bool} where
             let more = few_within q.network s 0 (q.network.fan s - 0) in
             let arcs = ap length ready in
             let few = here.lawful.sound.few_arcs s inside in
-            let run : f'.counts.run ≡ f.counts.run + 1 = ap (λ (c : Counts). c.run) opening.counted in
-            omega (arith, opening.next, here.counted);
+            omega (arith, opening.next, here.counted, opening.counted.run);
         kept = same ∙ here.kept;
         none_aside = here.none_aside;
         aside_room = here.aside_room;

@@ -1,9 +1,9 @@
 -- What a list of events hands out: each arc of a state at most once.
-use Rattle.std.proofs.Common.{◌≡◌, ◌≢◌, ℕ, ◌+◌, ◌<◌, ◌≤◌, Bool, true, false, cond, List, [], ◌∷◌, ◌++◌, length, arith}
-use Rattle.std.proofs.Common.{⊎_elim, refl, sym, ap, ◌∙◌}
+use Rattle.std.proofs.Common.{◌≡◌, ◌≢◌, ℕ, ◌+◌, ◌<◌, ◌≤◌, Bool, true, false, cond, List, [], ◌∷◌, length, arith}
+use Rattle.std.proofs.Common.{⊎_elim, sym, ap, ◌∙◌}
 use Rattle.std.proofs.lemmas.Bool.{cases_eq, cases_lt}
 use Rattle.std.proofs.lemmas.List.{length-set}
-use Rattle.sbpl_serial.specs.sbpl_labels.Marks.{Marks, states_of}
+use Rattle.sbpl_serial.specs.sbpl_labels.Marks.{states_of}
 use Rattle.sbpl_serial.specs.sbpl_search.Query.{Query}
 use Rattle.sbpl_serial.specs.Marked.{closed_at}
 use Rattle.sbpl_frontier_rules.specs.declared.event.Event.{Event}
@@ -11,7 +11,7 @@ use Rattle.sbpl_frontier_rules.specs.declared.event.Event.TheVariants.{Opened, T
 use Rattle.sbpl_frontier_rules.specs.declared.leg.Leg.{Leg}
 use Rattle.sbpl_frontier_rules.specs.Frontier.{Frontier, arcs_of, is_opened, times_ready}
 use Rattle.sbpl_frontier_rules.specs.Events.{AreEvents, IsOpening, IsTaking}
-use Rattle.sbpl_frontier_rules.specs.Journal.{handed_out_times, hands_out}
+use Rattle.sbpl_frontier_rules.specs.Journal.{handed_out_times}
 use Rattle.sbpl_frontier_rules.specs.Laws.{EachArcGoesOnce}
 use Rattle.sbpl_frontier_rules.proofs.Counting.{arc_below, arcs_below_few, one_at, ready_append}
 use Rattle.sbpl_frontier_rules.proofs.Once.{relaxed_same}

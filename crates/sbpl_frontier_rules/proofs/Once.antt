@@ -4,7 +4,9 @@ use Rattle.std.proofs.Common.{[], ◌∷◌, length, slice_set, arith, ⊎_elim,
 use Rattle.std.proofs.lemmas.Bool.{cases_eq, eq-eqb, ne_eqb, false≢true}
 use Rattle.std.proofs.lemmas.List.{length-set}
 use Rattle.sbpl_serial.specs.sbpl_graph.Network.{Network}
+use Rattle.sbpl_serial.specs.sbpl_labels.Counts.{GrowBy}
 use Rattle.sbpl_serial.specs.sbpl_labels.Marks.{Marks, states_of}
+use Rattle.sbpl_serial.proofs.Growing.{grow_none, grow_twice}
 use Rattle.sbpl_serial.specs.sbpl_search.Query.{Query}
 use Rattle.sbpl_serial.specs.Marked.{closed_at}
 use Rattle.sbpl_serial.specs.Relaxed.{IsRelaxed}
@@ -56,15 +58,12 @@ record HasOpened (events : List Event) (old new : Frontier) : Type 0 where
   opened : (s : ℕ) → 0 < opened_times s events → is_opened new s ≡ true
   total : marked new.opened ≡ marked old.opened + openings events
   marks : length new.opened ≡ length old.opened
-  counted : new.counts
-      ≡ record old.counts { plan = old.counts.plan + openings events; run = old.counts.run + openings events }
+  counted : GrowBy (openings events) old.counts new.counts
   start : new.labels.start ≡ old.labels.start
   states : states_of new.labels ≡ states_of old.labels
 
 opened_none : (old : Frontier) → HasOpened [] old old
 opened_none old =
-    let plan : old.counts.plan ≡ old.counts.plan + 0 = omega arith in
-    let run : old.counts.run ≡ old.counts.run + 0 = omega arith in
     record {
       none = λ s was. refl;
       each = λ s. omega arith;
@@ -72,7 +71,7 @@ opened_none old =
       opened = λ s some. absurd (omega arith);
       total = omega arith;
       marks = refl;
-      counted = λ i. record old.counts { plan = plan i; run = run i };
+      counted = grow_none old.counts;
       start = refl;
       states = refl;
     }
@@ -91,12 +90,8 @@ opened_quiet {e} {rest} {old} {mid} {new} opens_not no_opening quiet later =
     let still : (s : ℕ) → is_opened old s ≡ true → is_opened mid s ≡ true =
     λ s was. ap (λ marks. closed_at marks s) quiet.opened ∙ was in
     let total : marked mid.opened ≡ marked old.opened = ap marked quiet.opened in
-    let plan : old.counts.plan + openings rest ≡ old.counts.plan + openings (e ∷ rest) = omega arith in
-    let run : old.counts.run + openings rest ≡ old.counts.run + openings (e ∷ rest) = omega arith in
-    let counted : new.counts ≡ record old.counts {
-      plan = old.counts.plan + openings rest;
-      run = old.counts.run + openings rest;
-    } = rw quiet.counts at later.counted in
+    let counted : GrowBy (openings rest) old.counts new.counts = rw (← quiet.counts) later.counted in
+    let as_many : openings (e ∷ rest) ≡ openings rest = omega arith in
     record {
       none = λ s was. omega (arith, opens_not s, later.none s (still s was));
       each = λ s. omega (arith, opens_not s, later.each s);
@@ -104,7 +99,7 @@ opened_quiet {e} {rest} {old} {mid} {new} opens_not no_opening quiet later =
       opened = λ s some. later.opened s (omega (arith, opens_not s));
       total = omega (arith, later.total);
       marks = later.marks ∙ ap length quiet.opened;
-      counted = counted ∙ (λ i. record old.counts { plan = plan i; run = run i });
+      counted = rw as_many counted;
       start = later.start ∙ quiet.start;
       states = later.states ∙ quiet.states;
     }
@@ -119,12 +114,6 @@ opened_more {q} {s} {rest} {old} {mid} {new} inside opening later =
     λ u was. opened_still old.opened mid.opened s u inside opening.opened was in
     let total : marked mid.opened ≡ marked old.opened + 1 =
     ap marked opening.opened ∙ marked_more old.opened s inside opening.may.fresh in
-    let plan : old.counts.plan + 1 + openings rest ≡ old.counts.plan + (1 + openings rest) = omega arith in
-    let run : old.counts.run + 1 + openings rest ≡ old.counts.run + (1 + openings rest) = omega arith in
-    let counted : new.counts
-    ≡ record old.counts { plan = old.counts.plan + 1 + openings rest; run = old.counts.run + 1 + openings rest } =
-    rw opening.counted at later.counted
-    in
     record {
       none = λ u was.
           let apart : s ≢ u =
@@ -149,7 +138,7 @@ opened_more {q} {s} {rest} {old} {mid} {new} inside opening later =
           (cases_eq s u);
       total = omega (arith, later.total);
       marks = later.marks ∙ ap length opening.opened ∙ length-set old.opened s true;
-      counted = counted ∙ (λ i. record old.counts { plan = plan i; run = run i });
+      counted = grow_twice (1 + openings rest) refl opening.counted later.counted;
       start = later.start ∙ opening.settled.start;
       states = later.states ∙ opening.settled.states;
     }
@@ -207,7 +196,7 @@ each_opens_once bounded q m before events old new lawful may first run =
           in
           omega (arith, has.total, marked_fewer new.opened out.state state_inside fresh, has.marks, first.marks);
       opened = has.opened;
-      counted = rw first.counts at has.counted;
+      counted = rw (← first.counts) has.counted;
       start = has.start ∙ ap (λ (m : Marks). m.start) first.labels;
       states = states;
     }

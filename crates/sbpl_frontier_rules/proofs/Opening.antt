@@ -146,12 +146,12 @@ module _ {q : Query} {old new : Frontier} {s : ℕ} (kept : IsKept q old) (openi
         once = opening_once;
         tickets_differ = rw opening.out kept.tickets_differ;
         below_next = rw (opening.out, opening.next) kept.below_next;
-        counts = rw opening.counted (record {
-          some = kept.counts.some;
-          few = kept.counts.few;
-          within_plan = omega (arith, opening.may.left.of_plan);
-          within_run = omega (arith, opening.may.left.of_run);
-          plan_in_run = omega (arith, kept.counts.plan_in_run);
-        });
-        fits = rw opening.counted (fit_settled s kept.fits settles);
+        counts = record {
+          some = omega (arith, kept.counts.some, opening.counted.budget);
+          few = omega (arith, kept.counts.few, opening.counted.budget);
+          within_plan = omega (arith, opening.may.left.of_plan, opening.counted.plan, opening.counted.budget);
+          within_run = omega (arith, opening.may.left.of_run, opening.counted.run);
+          plan_in_run = omega (arith, kept.counts.plan_in_run, opening.counted.plan, opening.counted.run);
+        };
+        fits = rw opening.counted.run (fit_settled s kept.fits settles);
       }

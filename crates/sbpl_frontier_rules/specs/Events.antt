@@ -2,7 +2,7 @@
 use Rattle.std.specs.Prelude.{◌≡◌, ℕ, ◌+◌, ◌<◌, true, false, Option, List, [], ◌∷◌, ◌++◌, slice_set, length}
 use Rattle.std.specs.List.{Contains}
 use Rattle.sbpl_serial.specs.sbpl_graph.Network.{Network}
-use Rattle.sbpl_serial.specs.sbpl_labels.Counts.{Counts, HasLeft, IsSpent}
+use Rattle.sbpl_serial.specs.sbpl_labels.Counts.{Counts, GrowBy, HasLeft, IsSpent}
 use Rattle.sbpl_serial.specs.sbpl_labels.Marks.{Marks, ChangesRow, states_of, g_of, back_of}
 use Rattle.sbpl_serial.specs.sbpl_open.KeyOrder.{IsBelow}
 use Rattle.sbpl_serial.specs.sbpl_search.Query.{Query}
@@ -30,7 +30,7 @@ pub record IsOpening (q : Query) (old : Frontier) (s : ℕ) (new : Frontier) : T
   pub settled : ChangesRow old.labels new.labels s (record { g = g_of old.labels s; v = g_of old.labels s; back = back_of old.labels s })
   pub opened : new.opened ≡ slice_set old.opened s true
   pub ready : new.ready ≡ old.ready ++ arcs_of q.network s
-  pub counted : new.counts ≡ record old.counts { plan = old.counts.plan + 1; run = old.counts.run + 1 }
+  pub counted : GrowBy 1 old.counts new.counts
   pub out : new.out ≡ old.out
   pub next : new.next ≡ old.next
 

@@ -6,7 +6,7 @@ use Rattle.sbpl_serial.specs.sbpl_graph.Certificate.{AreSupported, ShowBound}
 use Rattle.sbpl_serial.specs.sbpl_graph.Exact.{AreExact}
 use Rattle.sbpl_serial.specs.sbpl_graph.Laws.{HasGaps, IsConsistent, IsSound}
 use Rattle.sbpl_serial.specs.sbpl_graph.Network.{Network}
-use Rattle.sbpl_serial.specs.sbpl_labels.Counts.{AreCounts, Counts}
+use Rattle.sbpl_serial.specs.sbpl_labels.Counts.{AreCounts, Counts, GrowBy}
 use Rattle.sbpl_serial.specs.sbpl_labels.Marks.{AreLabels, Marks, states_of, g_of, v_of, back_of}
 use Rattle.sbpl_serial.specs.sbpl_search.Query.{Query}
 use Rattle.sbpl_serial.specs.sbpl_search.Ready.{AreReady}
@@ -60,7 +60,7 @@ pub record OpensOnce (q : Query) (m : Marks) (before : Counts) (events : List Ev
   pub few : openings events ≤ states_of m
   pub unfinished : IsOutOfBudget q f → openings events < states_of m
   pub opened : (s : ℕ) → 0 < opened_times s events → is_opened f s ≡ true
-  pub counted : f.counts ≡ record before { plan = before.plan + openings events; run = before.run + openings events }
+  pub counted : GrowBy (openings events) before f.counts
   pub start : f.labels.start ≡ m.start
   pub states : states_of f.labels ≡ states_of m
 

@@ -1,7 +1,8 @@
 -- What a whole pass by events does to labels.
-use Rattle.std.specs.Prelude.{◌≡◌, ℕ, ◌+◌, ◌^◌, ◌≤◌, Bool, nat_lt, List}
+use Rattle.std.specs.Prelude.{◌≡◌, ◌≢◌, ℕ, ◌+◌, ◌^◌, ◌≤◌, Bool, nat_lt, List}
 use Rattle.sbpl_serial.specs.sbpl_labels.Counts.{Counts}
 use Rattle.sbpl_serial.specs.sbpl_labels.Marks.{Marks, g_of}
+use Rattle.sbpl_serial.specs.sbpl_labels.declared.time.Time.TheVariants.{Late}
 use Rattle.sbpl_serial.specs.sbpl_open.KeyOrder.{IsBelow}
 use Rattle.sbpl_serial.specs.sbpl_search.Query.{Query}
 use Rattle.sbpl_serial.specs.sbpl_search.Ready.{IsStartFresh}
@@ -15,12 +16,13 @@ use Rattle.sbpl_frontier_rules.specs.Journal.{opened_times, openings}
 abbrev pub opened_by : List Event → ℕ → Bool
 opened_by events s = nat_lt 0 (opened_times s events)
 
--- the plan and the run have this many expansions left
+-- the plan and the run have this many expansions left, and the plan is not late
 pub record HasRoom (c : Counts) (count : ℕ) : Type 0 where
   pub of_plan : c.plan + count ≤ c.per_plan
   pub of_run : c.run + count ≤ 2 ^ 30
+  pub in_time : c.time ≢ Late
 
--- the counts after this many expansions
+-- the counts after this many expansions in time
 abbrev pub counted_with : Counts → ℕ → Counts
 counted_with c count = record c { plan = c.plan + count; run = c.run + count }
 

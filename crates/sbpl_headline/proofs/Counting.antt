@@ -14,7 +14,7 @@ use Rattle.sbpl_promises.specs.sbpl_report.declared.record.PlanRecord.{PlanRecor
 use Rattle.sbpl_promises.specs.sbpl_report.declared.record.ReportPose.{ReportPose}
 use Rattle.sbpl_promises.specs.sbpl_report.declared.record.TraceLine.{TraceLine}
 use Rattle.sbpl_promises.specs.Asked.{PlannerOn}
-use Rattle.sbpl_promises.specs.Headline.{ArePlans, AreRecords, Carried, IsMarked, expanded_before}
+use Rattle.sbpl_promises.specs.Headline.{ArePlans, AreRecords, Before, Changed, IsMarked, NoPlan, expanded_before}
 use Rattle.sbpl_promises.specs.Published.{Entry, with_plan}
 use Rattle.sbpl_promises.specs.Sites.{Site}
 use Rattle.sbpl_promises.specs.declared.updates.Updates.{Updates}
@@ -63,7 +63,7 @@ plans_are_counted at places on w updates how outputs records log broken plans =
 module _ {P W : Type 0} (at : ReportPose → P) (places : ℕ → P) (by : PlannerOn W) (w : W) (batches : List (List Write))
     (how : SearchJob) (outputs : Outputs) (starts : ℕ → ℕ) (goal : ℕ) where
   -- what the mark of a plan says, of plans from plan k on
-  pub marked_from : (records : List PlanRecord) (k : ℕ) (log : List Entry) (before : Option Carried)
+  pub marked_from : (records : List PlanRecord) (k : ℕ) (log : List Entry) (before : Before)
       → AreRecords by w batches how outputs starts goal k log before records
       → (j n : ℕ) (p : Plan P) → slice_get (told_plans at places k records) j ≡ Some p → p.spent ≡ Some n
       → (n ≡ expansions p)
@@ -83,9 +83,9 @@ module _ {P W : Type 0} (at : ReportPose → P) (places : ℕ → P) (by : Plann
       let told : Plan P = told_plan at (places k) r in
       let rest : List (Plan P) = take (suc j) (told_plans at places (suc k) rs) in
       let next =
-      subst (λ (i : ℕ). AreRecords by w batches how outputs starts goal i (with_plan log r) (Some carried) rs)
+      subst (λ (i : ℕ). AreRecords by w batches how outputs starts goal i (with_plan log r) (Changed carried) rs)
       (add-one k) each in
-      let says = marked_from rs (suc k) (with_plan log r) (Some carried) next j n p here spent in
+      let says = marked_from rs (suc k) (with_plan log r) (Changed carried) next j n p here spent in
       let sum : sum_by expansions (told ∷ rest) ≡ passing.expansions r.passes + sum_by expansions rest =
       sum_by-cons expansions told rest
       ∙ ap (λ (count : ℕ). count + sum_by expansions rest) (expansions_told r.passes) in
@@ -98,10 +98,10 @@ module _ {P W : Type 0} (at : ReportPose → P) (places : ℕ → P) (by : Plann
 
   -- what the mark of a plan says, of all plans
   pub marks_are_told : (records : List PlanRecord) (log : List Entry)
-      → AreRecords by w batches how outputs starts goal 0 log None records
+      → AreRecords by w batches how outputs starts goal 0 log NoPlan records
       → (k n : ℕ) (p : Plan P) → slice_get (told_plans at places 0 records) k ≡ Some p → p.spent ≡ Some n
       → (n ≡ expansions p)
       × ((n ≡ how.budget) ⊎ (sum_by expansions (take (suc k) (told_plans at places 0 records)) ≡ 2 ^ 30))
   marks_are_told records log each k n p here spent =
-      let says = marked_from records 0 log None each k n p here spent in
+      let says = marked_from records 0 log NoPlan each k n p here spent in
       (says.0, same_or (sym (zero-add (sum_by expansions (take (suc k) (told_plans at places 0 records))))) says.1)

@@ -21,7 +21,7 @@ use Rattle.sbpl_promises.specs.sbpl_report.declared.record.ReportPose.{ReportPos
 use Rattle.sbpl_promises.specs.sbpl_report.declared.record.ReportPose.TheVariants as report_pose
 use Rattle.sbpl_promises.specs.Asked.{PlannerOn, planner_for}
 use Rattle.sbpl_promises.specs.GridSite.{grid_site}
-use Rattle.sbpl_promises.specs.Headline.{AreRecords, AreSteps, Carried, IsPlanOf, Joins}
+use Rattle.sbpl_promises.specs.Headline.{AreRecords, AreSteps, Before, Carried, Changed, IsPlanOf, Joins, NoPlan}
 use Rattle.sbpl_promises.specs.LatticeSite.{lattice_site}
 use Rattle.sbpl_promises.specs.Published.{Entry, with_plan}
 use Rattle.sbpl_headline.specs.Path.{Plan}
@@ -37,14 +37,14 @@ module _ {P W : Type 0} (at : ReportPose → P) (places : ℕ → P) (by : Plann
   pub record IsToldPlan (k : ℕ) (p : Plan P) : Type 0 where
     pub made : PlanRecord
     pub log : List Entry
-    pub before : Option Carried
+    pub before : Before
     pub carried : Carried
     pub map_is : IsMapAfter (by.on.cells.map w) batches k carried.map
     pub plan : IsPlanOf by (by.on.cells.over w carried.map) how outputs (starts k) goal k log before carried made
     pub told : told_plan at (places k) made ≡ p
 
   -- the plan at a place of the told ones, of plans from plan k on
-  plan_from : (records : List PlanRecord) (k : ℕ) (log : List Entry) (before : Option Carried)
+  plan_from : (records : List PlanRecord) (k : ℕ) (log : List Entry) (before : Before)
       → AreRecords by w batches how outputs starts goal k log before records
       → (j : ℕ) (p : Plan P) → slice_get (told_plans at places k records) j ≡ Some p
       → IsToldPlan (k + j) p
@@ -61,20 +61,20 @@ module _ {P W : Type 0} (at : ReportPose → P) (places : ℕ → P) (by : Plann
       })
   plan_from (r ∷ rs) k log before (carried, map_is, plan, each) (suc j) p here =
       let next =
-      subst (λ (i : ℕ). AreRecords by w batches how outputs starts goal i (with_plan log r) (Some carried) rs)
+      subst (λ (i : ℕ). AreRecords by w batches how outputs starts goal i (with_plan log r) (Changed carried) rs)
       (add-one k) each in
       let number : suc k + j ≡ k + suc j = omega arith in
       subst (λ (i : ℕ). IsToldPlan i p) number
-      (plan_from rs (suc k) (with_plan log r) (Some carried) next j p here)
+      (plan_from rs (suc k) (with_plan log r) (Changed carried) next j p here)
 
   -- the plan at a place of the told ones, of all plans
   pub plan_at : (records : List PlanRecord) (log : List Entry)
-      → AreRecords by w batches how outputs starts goal 0 log None records
+      → AreRecords by w batches how outputs starts goal 0 log NoPlan records
       → (k : ℕ) (p : Plan P) → slice_get (told_plans at places 0 records) k ≡ Some p
       → IsToldPlan k p
   plan_at records log each k p here =
       subst (λ (i : ℕ). IsToldPlan i p) (zero-add k)
-      (plan_from records 0 log None each k p here)
+      (plan_from records 0 log NoPlan each k p here)
 
 module _ {P W : Type 0} (at : ReportPose → P) (words : P → List (List ℕ)) (by : PlannerOn W) (w : W)
     (same : (m : CellMap) (s : ℕ) → by.on.reporting.report_pose (by.on.cells.over w m) s ≡ by.on.reporting.report_pose w s)
@@ -102,18 +102,18 @@ module _ {P W : Type 0} (at : ReportPose → P) (words : P → List (List ℕ)) 
 
   -- the records of plans
   pub records_told : (batches : List (List Write)) (how : SearchJob) (outputs : Outputs) (starts : ℕ → ℕ) (goal : ℕ)
-      (records : List PlanRecord) (k : ℕ) (log : List Entry) (before : Option Carried)
+      (records : List PlanRecord) (k : ℕ) (log : List Entry) (before : Before)
       → AreRecords by w batches how outputs starts goal k log before records
       → AreRecordsTold at words (λ j. at (by.on.reporting.report_pose w (starts j))) k records
   records_told batches how outputs starts goal [] k log before each = tt
   records_told batches how outputs starts goal (r ∷ rs) k log before (carried, map_is, plan, each) =
       let v : W = by.on.cells.over w carried.map in
       let next =
-      subst (λ (i : ℕ). AreRecords by w batches how outputs starts goal i (with_plan log r) (Some carried) rs)
+      subst (λ (i : ℕ). AreRecords by w batches how outputs starts goal i (with_plan log r) (Changed carried) rs)
       (add-one k) each in (
         plan.number,
         result_told v (starts k) goal _ r.outcome (ap at (same carried.map (starts k))) plan.promises.joins,
-        records_told batches how outputs starts goal rs (suc k) (with_plan log r) (Some carried) next,
+        records_told batches how outputs starts goal rs (suc k) (with_plan log r) (Changed carried) next,
       )
 
 -- ---- a grid, and a lattice
@@ -121,20 +121,20 @@ module _ {P W : Type 0} (at : ReportPose → P) (words : P → List (List ℕ)) 
 -- the records of plans on a grid are told by their squares
 pub records_on_grid : (p : Planner) (w : GridWorld) (batches : List (List Write)) (how : SearchJob) (outputs : Outputs)
     (starts : ℕ → ℕ) (goal : ℕ) (records : List PlanRecord) (log : List Entry)
-    → AreRecords (planner_for grid_site p) w batches how outputs starts goal 0 log None records
+    → AreRecords (planner_for grid_site p) w batches how outputs starts goal 0 log NoPlan records
     → AreRecordsTold square_at square_words (λ j. square_of w.env.width (starts j)) 0 records
 records_on_grid p w batches how outputs starts goal records log each =
     records_told square_at square_words (planner_for grid_site p) w (λ m s. refl) (λ v s. square_line _ _)
     (λ v s k t step is. subst (IsReportPoseTold square_at square_words) (sym is.report_pose) (square_line _ _))
-    batches how outputs starts goal records 0 log None each
+    batches how outputs starts goal records 0 log NoPlan each
 
 -- and those of plans on a lattice by their places, where a pose stands for its own
 pub records_on_lattice : (at : ReportPose → Place) → ((q : Place) → at (report_pose.Pose q) ≡ q)
     → (p : Planner) (w : World) (batches : List (List Write)) (how : SearchJob) (outputs : Outputs)
     (starts : ℕ → ℕ) (goal : ℕ) (records : List PlanRecord) (log : List Entry)
-    → AreRecords (planner_for lattice_site p) w batches how outputs starts goal 0 log None records
+    → AreRecords (planner_for lattice_site p) w batches how outputs starts goal 0 log NoPlan records
     → AreRecordsTold at pose_words (λ j. at (report_pose.Pose (place_of w.env (starts j)))) 0 records
 records_on_lattice at poses p w batches how outputs starts goal records log each =
     records_told at pose_words (planner_for lattice_site p) w (λ m s. refl) (λ v s. pose_line at poses (place_of v.env s))
     (λ v s k t step is. subst (IsReportPoseTold at pose_words) (sym is.report_pose) (pose_line at poses (place_of v.env t)))
-    batches how outputs starts goal records 0 log None each
+    batches how outputs starts goal records 0 log NoPlan each

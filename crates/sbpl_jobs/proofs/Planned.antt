@@ -5,7 +5,7 @@ use Rattle.sbpl_checks.specs.sbpl_job.declared.job.SearchJob.{SearchJob}
 use Rattle.sbpl_checks.specs.sbpl_job.Jobs.{may_move}
 use Rattle.sbpl_checks.specs.sbpl_promises.Asked.{planner_for, planner_as_is}
 use Rattle.sbpl_checks.specs.sbpl_promises.Causes.{AreMovesIn, AreUpdatesIn}
-use Rattle.sbpl_checks.specs.sbpl_promises.Headline.{ArePlans, IsBrokenIn}
+use Rattle.sbpl_checks.specs.sbpl_promises.Headline.{ArePlans, IsBrokenIn, NoPlan}
 use Rattle.sbpl_checks.specs.sbpl_promises.Promises.{EndsPlans}
 use Rattle.sbpl_checks.specs.sbpl_promises.Published.{Entry, with_paths, with_plans}
 use Rattle.sbpl_checks.specs.sbpl_promises.Sites.{Site, searched_on, start_after}
@@ -18,17 +18,17 @@ pub as_told : {W : Type 0} (on : Site W) {written_of : PlanRecord → List Write
     {batches : _} {how : SearchJob} {outputs : Outputs} {starts : ℕ → ℕ} {goal : ℕ}
     {log shown : List Entry} {why : List ℕ} {a b : DeskState} {status : ℕ}
     (back : Bool) → may_move how.planner ≡ back
-    → EndsPlans (planner_as_is (searched_on on back) how.planner) written_of told_of w batches how outputs starts goal 0 log shown [] why None a b status
-    → EndsPlans (planner_for on how.planner) written_of told_of w batches how outputs starts goal 0 log shown [] why None a b status
+    → EndsPlans (planner_as_is (searched_on on back) how.planner) written_of told_of w batches how outputs starts goal 0 log shown [] why NoPlan a b status
+    → EndsPlans (planner_for on how.planner) written_of told_of w batches how outputs starts goal 0 log shown [] why NoPlan a b status
 as_told {W} on {written_of} {told_of} {w} {batches} {how} {outputs} {starts} {goal} {log} {shown} {why} {a} {b} {status} back is ends =
     subst (λ (x : Bool). EndsPlans (planner_as_is (searched_on on x) how.planner) written_of told_of w batches how outputs starts goal 0
-    log shown [] why None a b status) (sym is) ends
+    log shown [] why NoPlan a b status) (sym is) ends
 
 -- plans that begin on the map as it is, with nothing planned before
 module _ {W : Type 0} (on : Site W) {written_of : PlanRecord → List Write} {told_of : PlanRecord → List ℕ} {w : W} {how : SearchJob} {outputs : Outputs}
     {goal : ℕ} {log shown : List Entry} {why : List ℕ} {a b : DeskState} {status : ℕ} (updates : Updates) (start : ℕ)
     (e : EndsPlans (planner_for on how.planner) written_of told_of w updates.batches how outputs
-    (start_after on.reporting w start updates.moves) goal 0 log shown [] why None a b status) where
+    (start_after on.reporting w start updates.moves) goal 0 log shown [] why NoPlan a b status) where
   count : 0 + length e.records ≡ length e.records
   count = omega arith
 

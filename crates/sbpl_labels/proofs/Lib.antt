@@ -2,6 +2,7 @@ pub mod Bounds
 pub mod Columns
 pub mod Opened
 pub mod Changes
+pub mod Growing
 pub mod Choosing
 pub mod Lowest
 pub mod Walking

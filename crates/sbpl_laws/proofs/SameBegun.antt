@@ -1,5 +1,5 @@
 -- The labels that a plan begins with are determined.
-use Rattle.std.proofs.Common.{◌≡◌, ◌≢◌, ℕ, ◌↔◌, Bool, true, List, [], Option, Some, None, sym, subst, ◌∙◌}
+use Rattle.std.proofs.Common.{◌≡◌, ◌≢◌, ℕ, ◌↔◌, Bool, true, List, [], None, sym, subst, ◌∙◌}
 use Rattle.std.specs.List.{Contains}
 use Rattle.sbpl_promises.specs.sbpl_graph.Network.{Network, IsArc}
 use Rattle.sbpl_promises.specs.sbpl_map.CellMap.{CellMap, cost_at}
@@ -11,7 +11,7 @@ use Rattle.sbpl_promises.specs.sbpl_search.Determined.{AreBeginningsDetermined}
 use Rattle.sbpl_promises.specs.sbpl_search.Meaning.{Meaning}
 use Rattle.sbpl_promises.specs.sbpl_serial.Determined.{InitialLabelsAreOne}
 use Rattle.sbpl_promises.specs.sbpl_replan.Replanning.{BeginsWith}
-use Rattle.sbpl_promises.specs.Headline.{Begins, Carried}
+use Rattle.sbpl_promises.specs.Headline.{Before, Begins, Carried, Changed, NoPlan, Unchanged}
 use Rattle.sbpl_promises.specs.Sites.{Site, searched_on}
 use Rattle.sbpl_laws.proofs.AlikeSites.{AreAlike, GoesAlike}
 
@@ -55,9 +55,11 @@ module _ {W : Type 0} (on : Site W) (Alike : W → W → Type 0) (alike : AreAli
       pub no_arc : back_of b.labels b.labels.start ≡ None
       pub graph : on.reporting.told (on.cells.over w b.map) ≡ on.reporting.told (on.cells.over v b.map)
 
-    abbrev pub AreCarried : Option Carried → Type 0
-    AreCarried None = Unit {0}
-    AreCarried (Some b) = IsCarried b
+    -- what is left to plans of a change file, the first of which comes after none, and each later one after changes
+    abbrev pub AreCarried : Before → Type 0
+    AreCarried NoPlan = Unit {0}
+    AreCarried (Changed b) = IsCarried b
+    AreCarried (Unchanged b) = ⊥
 
     module _ (initial : InitialLabelsAreOne) where
       initial_begun : (m : CellMap) (start : ℕ) (x y : Marks) (xs ys : List ℕ)
@@ -122,14 +124,15 @@ module _ {W : Type 0} (on : Site W) (Alike : W → W → Type 0) (alike : AreAli
               no_arc = law.no_arc n p.touched left.labels x xs carried.no_arc p.begun;
             }
 
-        pub one_begun : (m : CellMap) (from : ℕ) (before : Option Carried) (x y : Marks) (xs ys : List ℕ)
+        pub one_begun : (m : CellMap) (from : ℕ) (before : Before) (x y : Marks) (xs ys : List ℕ)
             → on.cells.is_made (on.cells.over w m) → on.reporting.told (on.cells.over w m) ≡ on.reporting.told (on.cells.over v m)
             → AreCarried before → Begins means over (on.cells.over w m) from before x xs
             → Begins means over (on.cells.over v m) from before y ys
             → AreBegun (on.reporting.told (on.cells.over w m)).states x y xs ys
-        one_begun m from None x y xs ys made same carried p q =
+        one_begun m from NoPlan x y xs ys made same carried p q =
             let count : (w : W) → (over.network w).states ≡ (on.reporting.told w).states = goes.states in
             initial_begun m from x y xs ys same
             (subst (λ (k : ℕ). AreInitial x k from) (count (on.cells.over w m)) p.0, p.1)
             (subst (λ (k : ℕ). AreInitial y k from) (count (on.cells.over v m)) q.0, q.1)
-        one_begun m from (Some left) x y xs ys made same carried p q = with_begun m left x y xs ys made same carried p q
+        one_begun m from (Changed left) x y xs ys made same carried p q = with_begun m left x y xs ys made same carried p q
+        one_begun m from (Unchanged left) x y xs ys made same carried p q = absurd carried

@@ -1,5 +1,5 @@
 -- The record of a plan is determined, and so are the records of plans in turn.
-use Rattle.std.proofs.Common.{map, ◌≡◌, ℕ, ◌+◌, ◌^◌, ◌<◌, ◌≤◌, ◌⊎◌, Bool, true, false, if◌then◌else◌, Option, Some}
+use Rattle.std.proofs.Common.{map, ◌≡◌, ◌≢◌, ℕ, ◌+◌, ◌^◌, ◌<◌, ◌≤◌, ◌⊎◌, Bool, true, false, if◌then◌else◌, Option, Some}
 use Rattle.std.proofs.Common.{None, List, [], ◌∷◌, ◌++◌, append-nil, length, inl, inr, refl, sym, ap, subst, ◌∙◌, arith}
 use Rattle.std.proofs.lemmas.Bool.{MatchBool-at_true, false≢true}
 use Rattle.std.proofs.lemmas.List.{ext_get_or, length-append, nil_from_length}
@@ -35,6 +35,8 @@ use Rattle.sbpl_promises.specs.sbpl_plan.declared.result.FoundPath.{FoundPath}
 use Rattle.sbpl_promises.specs.sbpl_plan.declared.result.PlanResult.{PlanResult}
 use Rattle.sbpl_promises.specs.sbpl_plan.declared.result.PlanResult.TheVariants as outcome
 use Rattle.sbpl_promises.specs.sbpl_plan.Asked.{lowered}
+use Rattle.sbpl_promises.specs.sbpl_labels.declared.time.Time.{Time}
+use Rattle.sbpl_promises.specs.sbpl_labels.declared.time.Time.TheVariants.{Late, Unlimited}
 use Rattle.sbpl_promises.specs.sbpl_plan.Determined.{AreWithin, OutcomesAreOne, PassesAreOne}
 use Rattle.sbpl_promises.specs.sbpl_plan.Outcomes.{IsResultOf}
 use Rattle.sbpl_promises.specs.sbpl_plan.Passing.{ArePasses, Inquiry, expansions, query_at}
@@ -49,8 +51,8 @@ use Rattle.sbpl_promises.specs.Asked.{PlannerOn, Search, ask_of, from_by, is_det
 use Rattle.sbpl_promises.specs.Sites.{Leads, Site, searched_on, start_after}
 use Rattle.sbpl_promises.specs.sbpl_job.Jobs.{may_move}
 use Rattle.sbpl_promises.specs.Blocked.{IsBlockage, IsBlockageOf}
-use Rattle.sbpl_promises.specs.Headline.{AreRecords, AreSteps, Carried, IsMarked, IsPlanOf, IsSearched, IsTurned}
-use Rattle.sbpl_promises.specs.Headline.{Joins, IsSameResult, expanded_before}
+use Rattle.sbpl_promises.specs.Headline.{AreRecords, AreSteps, Before, Carried, Changed, IsMarked, IsPlanOf, IsSearched, IsTurned}
+use Rattle.sbpl_promises.specs.Headline.{Joins, IsSameResult, NoPlan, expanded_before}
 use Rattle.sbpl_promises.specs.sbpl_back.Reversed.{PathsTurnOnce}
 use Rattle.sbpl_promises.specs.sbpl_map.MapAfter.{IsMapAfter}
 use Rattle.sbpl_laws.proofs.AlikeSites.{AreAlike, GoesAlike, LeadsOnce, goes_alike, leads_once, same_starts}
@@ -262,22 +264,30 @@ expansions_traced line [] = refl
 expansions_traced line (p ∷ ps) = ap (λ (n : ℕ). p.expanded + n) (expansions_traced line ps)
 
 as_many : {W : Type 0} {by : PlannerOn W} {w : W} {how : SearchJob} {outputs : Outputs} {start goal : ℕ}
-    {before : Option Carried} {carried : Carried} {r : PlanRecord}
+    {before : Before} {carried : Carried} {r : PlanRecord}
     → (x : IsSearched by w how outputs start goal before carried r) → expansions r.passes ≡ expansions x.recorded
 as_many {W} {by} x = ap expansions x.lines ∙ expansions_traced by.line x.recorded
 
 -- what a plan expanded is within its budget and what the run had left
 within_room : {W : Type 0} {by : PlannerOn W} {w : W} {how : SearchJob} {outputs : Outputs} {start goal : ℕ}
-    {before : Option Carried} {carried : Carried} {r : PlanRecord}
+    {before : Before} {carried : Carried} {r : PlanRecord}
     → (x : IsSearched by w how outputs start goal before carried r)
-    → AreWithin how.budget (expanded_before before) x.recorded x.spent
+    → AreWithin how.budget (expanded_before before) Unlimited x.recorded x.spent
 within_room {W} {by} {w} {how} {outputs} {start} {goal} {before} {carried} {r} x = record {
   of_plan = omega (arith, x.within_budget, x.expanded, as_many x);
   of_run = omega (arith, x.within_run, x.counted, as_many x);
-  used_up = λ is. rw (← as_many x) (MatchBool-at_true ((r.spent ≡ Some (expansions r.passes))
+  used_up = λ is. with_late (rw (← as_many x) (MatchBool-at_true ((r.spent ≡ Some (expansions r.passes))
       × ((expansions r.passes ≡ how.budget) ⊎ (expanded_before before + expansions r.passes ≡ 2 ^ 30)))
-      (r.spent ≡ None) is x.marked).1;
+      (r.spent ≡ None) is x.marked).1);
 }
+  where
+    with_late : {A B C : Type 0} → A ⊎ B → A ⊎ (B ⊎ C)
+    with_late (inl a) = inl a
+    with_late (inr b) = inr (inl b)
+
+-- a plan without a limit of time is not late
+unlimited_in_time : Unlimited ≢ Late
+unlimited_in_time late = let same : ◌≡◌ {A = Time} Unlimited Late = late in cc
 
 -- two plans have one record, leave the same, and what they leave is carried on
 pub record AreOneRecord (count : ℕ) (carried other : Carried) (r u : PlanRecord) : Type 0 where
@@ -302,7 +312,7 @@ module _ {W : Type 0} (on : Site W) (Alike : W → W → Type 0) (alike : AreAli
   by = planner_on (searched_on on back) search.means search.line
 
   one_record : (m : CellMap) (how : SearchJob) (outputs : Outputs) (start goal : ℕ) (log : List Entry)
-      (before : Option Carried) (carried other : Carried) (r u : PlanRecord)
+      (before : Before) (carried other : Carried) (r u : PlanRecord)
       → on.cells.is_made (on.cells.over w m) → on.reporting.told (on.cells.over w m) ≡ on.reporting.told (on.cells.over v m)
       → AreCarried on Alike alike w v both_alike before → r.plan ≡ u.plan
       → Joins by.on (on.cells.over w m) start goal r.outcome → Joins by.on (on.cells.over v m) start goal u.outcome
@@ -334,8 +344,9 @@ module _ {W : Type 0} (on : Site W) (Alike : W → W → Type 0) (alike : AreAli
       let passes : ArePasses by.means (record { network = n; guide = y.guide; goal = to; workers = workers_of how; ask = ask }) how.first x.begun
       y.recorded other.labels y.spent = rw (one_network, begun.same) y.passes in
       let one =
-      law.plans q y.guide how.budget (expanded_before before) how.first x.begun carried.labels other.labels x.recorded
-      y.recorded x.spent y.spent begun.no_arc guided x.passes passes (within_room x) (within_room y) in
+      law.plans q y.guide how.budget (expanded_before before) how.first Unlimited Unlimited x.begun carried.labels
+      other.labels x.recorded y.recorded x.spent y.spent begun.no_arc guided x.passes passes unlimited_in_time
+      unlimited_in_time (within_room x) (within_room y) in
       let placed = passes_placed by.means law.passes q x.recorded how.first x.begun carried.labels x.spent x.passes in
       let no_arc : back_of carried.labels carried.labels.start ≡ None = placed.no_arc begun.no_arc in
       let states : states_of carried.labels ≡ count = placed.states ∙ begun.states in
@@ -403,7 +414,7 @@ module _ {W : Type 0} (on : Site W) (Alike : W → W → Type 0) (alike : AreAli
   module _ (one_map : OneMap) (batches : List (List Write)) (how : SearchJob) (outputs : Outputs)
       (starts : ℕ → ℕ) (goal : ℕ) where
     -- records of plans from one on are the first of any others from it on that are no fewer
-    pub one_records : (rs us : List PlanRecord) (k : ℕ) (log : List Entry) (before : Option Carried)
+    pub one_records : (rs us : List PlanRecord) (k : ℕ) (log : List Entry) (before : Before)
         → AreCarried on Alike alike w v both_alike before → length rs ≤ length us
         → AreRecords by w batches how outputs starts goal k log before rs
         → AreRecords by v batches how outputs starts goal k log before us
@@ -429,16 +440,16 @@ module _ {W : Type 0} (on : Site W) (Alike : W → W → Type 0) (alike : AreAli
         left.2.promises.blocked plan.promises.blocked left.2.searched
         plan.searched left.2.incumbent plan.incumbent in
         let both : carried ≡ other = λ i. record { map = maps i; labels = one.labels i; expanded = one.expanded i } in
-        let later : AreCarried on Alike alike w v both_alike (Some carried) =
+        let later : AreCarried on Alike alike w v both_alike (Changed carried) =
         record { made = left.2.is_world; states = one.states; no_arc = one.no_arc; graph = same } in
-        let further : AreRecords by v batches how outputs starts goal (k + 1) (with_plan log r) (Some carried) us =
+        let further : AreRecords by v batches how outputs starts goal (k + 1) (with_plan log r) (Changed carried) us =
         subst (λ (x : PlanRecord).
-        AreRecords by v batches how outputs starts goal (k + 1) (with_plan log x) (Some carried) us) (sym one.record_is)
-        (subst (λ (c : Carried). AreRecords by v batches how outputs starts goal (k + 1) (with_plan log u) (Some c) us)
+        AreRecords by v batches how outputs starts goal (k + 1) (with_plan log x) (Changed carried) us) (sym one.record_is)
+        (subst (λ (c : Carried). AreRecords by v batches how outputs starts goal (k + 1) (with_plan log u) (Changed c) us)
         (sym both) right.3)
         in
         let after_them =
-        one_records rs us (k + 1) (with_plan log r) (Some carried) later (omega arith) left.3 further in
+        one_records rs us (k + 1) (with_plan log r) (Changed carried) later (omega arith) left.3 further in
         let same_record : u ≡ r = sym one.record_is in
         let same_rest : us ≡ rs ++ after_them.0 = after_them.1 in
         (after_them.0, λ i. same_record i ∷ same_rest i)
@@ -474,17 +485,17 @@ few_are_first on Alike alike laws turned initial one_result cut_one one_map w v 
     let own : start_after on.reporting v right.start updates.moves ≡ mine =
     same_starts on.reporting v w right.start left.start updates.moves updates.moves
     (sym (alike.state w v a)) (sym starts) refl in
-    let each : AreRecords (planner_for on how.planner) v updates.batches how outputs mine left.goal 0 log None us =
-    subst (λ (s : ℕ → ℕ). AreRecords (planner_for on how.planner) v updates.batches how outputs s left.goal 0 log None us) own
+    let each : AreRecords (planner_for on how.planner) v updates.batches how outputs mine left.goal 0 log NoPlan us =
+    subst (λ (s : ℕ → ℕ). AreRecords (planner_for on how.planner) v updates.batches how outputs s left.goal 0 log NoPlan us) own
     (subst (λ (g : ℕ). AreRecords (planner_for on how.planner) v updates.batches how outputs
-    (start_after on.reporting v right.start updates.moves) g 0 log None us) (sym goals) right.each)
+    (start_after on.reporting v right.start updates.moves) g 0 log NoPlan us) (sym goals) right.each)
     in
     let few = left.few in
     let many = right.all_made refl in
     one_records on Alike alike (search_of how.planner) (laws how.planner determined) back
     (goes_alike on Alike alike back) (leads_once on Alike alike turned back) initial one_result cut_one w v a one_map
     updates.batches how outputs mine left.goal
-    rs us 0 log None tt (omega arith) left.each each
+    rs us 0 log NoPlan tt (omega arith) left.each each
 
 pub records_are_one : {W : Type 0} (on : Site W) (Alike : W → W → Type 0) → FewAreFirst on Alike
     → RecordsAreOne on Alike

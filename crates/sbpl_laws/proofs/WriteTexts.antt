@@ -30,7 +30,7 @@ use Rattle.sbpl_promises.specs.declared.section_stop.SectionStop.{SectionStop}
 use Rattle.sbpl_promises.specs.declared.section_stop.SectionStop.TheVariants as section
 use Rattle.sbpl_promises.specs.Asked.{PlannerOn}
 use Rattle.sbpl_promises.specs.Causes.{ReadsWorld}
-use Rattle.sbpl_promises.specs.Headline.{AreRecords, Carried}
+use Rattle.sbpl_promises.specs.Headline.{AreRecords, Before, Changed, NoPlan}
 use Rattle.sbpl_promises.specs.Asked.{planner_for}
 use Rattle.sbpl_promises.specs.GridSite.{grid_site, grid_reporting}
 use Rattle.sbpl_promises.specs.LatticeSite.{lattice_site, lattice_reporting}
@@ -162,14 +162,14 @@ section_full o P r there =
 
 module _ {W : Type 0} (by : PlannerOn W) (w : W) (batches : List (List change.Write)) (how : SearchJob) (o : Outputs)
     (starts : ℕ → ℕ) (goal : ℕ) where
-  records_full : (k : ℕ) (log : List Entry) (before : Option Carried) (rs : List PlanRecord)
+  records_full : (k : ℕ) (log : List Entry) (before : Before) (rs : List PlanRecord)
       → AreRecords by w batches how o starts goal k log before rs
       → NoneEmpty (flat_map (section_writes o) rs)
   records_full k log before [] each = no_writes
   records_full k log before (r ∷ rs) (carried, after, is, rest) =
       let own = section_full o _ r is.searched.labels in
       both (section_writes o r) (flat_map (section_writes o) rs) own
-      (records_full (k + 1) (with_plan log r) (Some carried) rs rest)
+      (records_full (k + 1) (with_plan log r) (Changed carried) rs rest)
 
 lines_full : (rs : List PlanRecord) → NoneEmpty (flat_map (λ (r : PlanRecord). to_output (plan_line r) ∷ []) rs)
 lines_full [] = no_writes
@@ -233,14 +233,14 @@ intent_full held Failed (job.Plan p) (Planned records all log broken) gives =
     let plans = gives.plans in
     let sections =
     records_full (planner_for lattice_site p.search.planner) gives.world gives.updates.batches p.search p.outputs
-    (start_after lattice_reporting gives.world plans.start gives.updates.moves) plans.goal 0 log None records plans.each in
+    (start_after lattice_reporting gives.world plans.start gives.updates.moves) plans.goal 0 log NoPlan records plans.each in
     both _ _ sections (end_full all)
 intent_full held Failed (job.Check c) (Checked goals os end) gives = checked_full goals 0 os end
 intent_full held Failed (job.Nav n) (Planned records all log broken) gives =
     let plans = gives.plans in
     let sections =
     records_full (planner_for grid_site n.search.planner) gives.world gives.updates.batches n.search n.outputs
-    (start_after grid_reporting gives.world plans.start gives.updates.moves) plans.goal 0 log None records plans.each in
+    (start_after grid_reporting gives.world plans.start gives.updates.moves) plans.goal 0 log NoPlan records plans.each in
     both _ _ sections (end_full all)
 intent_full held Failed (job.NavCheck n) (Checked goals os end) gives = checked_full goals 0 os end
 intent_full held Failed (job.Sweep from) (Listed w) gives = both _ _ (listed_full held from w gives.0) last_full

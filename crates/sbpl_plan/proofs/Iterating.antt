@@ -1,10 +1,10 @@
 -- What a pass shows at its end.
-use Rattle.std.proofs.Common.{◌≡◌, ℕ, ◌*◌, ◌+◌, ◌<◌, ◌≤◌, Bool, true, false, if◌then◌else◌, List, [], Some, refl}
+use Rattle.std.proofs.Common.{◌≡◌, ℕ, ◌*◌, ◌<◌, ◌≤◌, Bool, true, false, if◌then◌else◌, List, [], Some, refl}
 use Rattle.std.proofs.Common.{sym, subst, arith}
 use Rattle.sbpl_search.specs.sbpl_graph.Network.{Network}
 use Rattle.sbpl_search.specs.sbpl_graph.Certificate.{ShowBound, ShowNone}
 use Rattle.sbpl_search.specs.sbpl_labels.Chain.{chain_at}
-use Rattle.sbpl_search.specs.sbpl_labels.Counts.{Counts}
+use Rattle.sbpl_search.specs.sbpl_labels.Counts.{Counts, GrowBy}
 use Rattle.sbpl_search.specs.sbpl_labels.CutOff.{IsCutOff}
 use Rattle.sbpl_search.specs.sbpl_labels.Marks.{Marks, states_of, g_of, v_of, back_of}
 use Rattle.sbpl_search.specs.sbpl_labels.declared.pass_end.PassEnd.{PassEnd}
@@ -75,8 +75,7 @@ module _ {Action : Type 0} (means : Meaning Action) {n : Network} {h : ℕ → �
       found = finds;
       leaves = record {
         counted =
-            subst (λ (k : ℕ). after ≡ record before { plan = before.plan + k; run = before.run + k })
-            (sym counted) passed.counted;
+            subst (λ (k : ℕ). GrowBy k before after) (sym counted) passed.counted;
         ready = passed.ready;
         fresh = passed.fresh fresh;
         start = passed.start;

@@ -1,13 +1,15 @@
 -- How passes add up to a plan.
-use Rattle.std.proofs.Common.{◌≡◌, ◌≢◌, ℕ, ◌+◌, ◌-◌, ◌*◌, ◌/◌, ◌<◌, ◌≤◌, ◌^◌, max, Bool, true, false, List, [], ◌∷◌}
+use Rattle.std.proofs.Common.{◌≡◌, ◌≢◌, ℕ, ◌+◌, ◌-◌, ◌*◌, ◌/◌, ◌<◌, ◌≤◌, ◌^◌, ◌⊎◌, max, Bool, true, false, List, [], ◌∷◌}
 use Rattle.std.proofs.Common.{◌++◌, length, Result, Ok, Err, refl, sym, ◌∙◌, ap, subst, arith, inl, inr}
-use Rattle.std.proofs.Common.{append_assoc, length-append, add-zero}
+use Rattle.std.proofs.Common.{append_assoc, length-append}
 use Rattle.std.specs.Prelude.{OnErr}
 use Rattle.std.proofs.Math.Nat.{add-mul, div-eq_of_lt, div-eq-sub-div}
 use Rattle.std.proofs.lemmas.Bool.{cases_lt}
 use Rattle.std.proofs.lemmas.List.{append-nil}
 use Rattle.sbpl_search.specs.sbpl_labels.Counts.{AreCounts, Counts}
 use Rattle.sbpl_search.specs.sbpl_labels.Marks.{Marks, states_of}
+use Rattle.sbpl_search.specs.sbpl_labels.declared.time.Time.TheVariants.{Late}
+use Rattle.sbpl_search.proofs.Growing.{grow_none, grow_twice}
 use Rattle.sbpl_search.specs.Meaning.{Meaning}
 use Rattle.sbpl_search.specs.Query.{query}
 use Rattle.sbpl_search.specs.Ready.{IsStartFresh}
@@ -53,23 +55,6 @@ expansions_of_both : {Action : Type 0} (ps qs : List (PassRecord Action)) → ex
 expansions_of_both [] qs = omega arith
 expansions_of_both (p ∷ ps) qs = let more = expansions_of_both ps qs in omega arith
 
--- counts that grow twice
-grows_twice : (before mid after : Counts) (a b c : ℕ) → c ≡ a + b
-    → mid ≡ record before { plan = before.plan + a; run = before.run + a }
-    → after ≡ record mid { plan = mid.plan + b; run = mid.run + b }
-    → after ≡ record before { plan = before.plan + c; run = before.run + c }
-grows_twice before mid after a b c sum one two =
-    two ∙ ap (λ (m : Counts). record m { plan = m.plan + b; run = m.run + b }) one
-    ∙ ap (λ (x : ℕ). record before { plan = x; run = before.run + a + b })
-    (let e : before.plan + a + b ≡ before.plan + c = omega arith in e)
-    ∙ ap (λ (x : ℕ). record before { plan = before.plan + c; run = x })
-    (let e : before.run + a + b ≡ before.run + c = omega arith in e)
-
-grows_by_none : (before : Counts) → before ≡ record before { plan = before.plan + 0; run = before.run + 0 }
-grows_by_none before =
-    ap (λ (x : ℕ). record before { plan = x }) (sym (add-zero before.plan))
-    ∙ ap (λ (x : ℕ). record before { plan = before.plan + 0; run = x }) (sym (add-zero before.run))
-
 -- one more pass, with at most a given number of expansions
 one_more : {c k : ℕ} (a b l s : ℕ) → c ≡ a + b → k ≡ l + 1 → a ≤ l * s → b ≤ s → c ≤ k * s
 one_more a b l s sum count most few = rw (count, add-mul l 1 s) (let one : 1 * s ≡ s = omega arith in omega arith)
@@ -86,7 +71,7 @@ ready_twice : {Action : Type 0} (means : Meaning Action) (n : Network) (a b c : 
     (before between after : Counts) → c ≡ a + b → IsReadyAfter means n a old mid before between
     → IsReadyAfter means n b mid new between after → IsReadyAfter means n c old new before after
 ready_twice means n a b c old mid new before between after sum one two = record {
-  counted = grows_twice before between after a b c sum one.counted two.counted;
+  counted = grow_twice c sum one.counted two.counted;
   ready = two.ready;
   fresh = two.fresh;
   start = two.start ∙ one.start;
@@ -120,7 +105,7 @@ module _ {Action : Type 0} (means : Meaning Action) {q : Inquiry} {old : State A
     leads = λ ps new spent made. made;
     prefix = λ ps new made. made;
     leaves = record {
-      counted = grows_by_none before;
+      counted = grow_none before;
       ready = ready;
       fresh = fresh;
       start = refl;
@@ -214,7 +199,7 @@ module _ {Action : Type 0} (means : Meaning Action) {q : Inquiry} {old : State A
 
         enough : spent ≡ true
             → before.plan + most_passes q.ask.step q.ask.first * (means.most * q.network.states) ≤ before.per_plan
-            → after.run ≡ 2 ^ 30
+            → (after.run ≡ 2 ^ 30) ⊎ (after.time ≡ Late)
         enough ran_out room =
             run_is_spent before after (expansions (passes ++ p ∷ [])) (length (passes ++ p ∷ []))
             (most_passes q.ask.step q.ask.first) (means.most * states_of old.labels)
@@ -259,7 +244,7 @@ part_of_none means q eps old before Told told ready fresh = record {
   told = told;
   made = refl;
   leaves = record {
-    counted = grows_by_none before;
+    counted = grow_none before;
     ready = ready;
     fresh = fresh;
     start = refl;

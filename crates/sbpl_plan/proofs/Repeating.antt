@@ -1,8 +1,10 @@
 -- The passes of a plan are determined.
-use Rattle.std.proofs.Common.{◌≡◌, ℕ, ◌+◌, ◌-◌, ◌^◌, ◌<◌, ◌≤◌, Bool, true, false, if◌then◌else◌, None, List, [], ◌∷◌}
-use Rattle.std.proofs.Common.{min, refl, sym, ap, subst, arith, ⊎_elim, inl, inr, ◌∙◌}
+use Rattle.std.proofs.Common.{◌≡◌, ◌≢◌, ℕ, ◌-◌, ◌^◌, ◌<◌, ◌≤◌, Bool, true, false, if◌then◌else◌, None, List, [], ◌∷◌}
+use Rattle.std.proofs.Common.{min, refl, sym, ap, subst, arith, inl, inr, ◌∙◌}
 use Rattle.std.proofs.lemmas.Bool.{false≢true}
 use Rattle.sbpl_search.specs.sbpl_labels.Marks.{Marks, states_of, back_of}
+use Rattle.sbpl_search.specs.sbpl_labels.declared.time.Time.{Time}
+use Rattle.sbpl_search.specs.sbpl_labels.declared.time.Time.TheVariants.{Late}
 use Rattle.sbpl_search.specs.Determined.{AreAlikeGuides, AreDetermined}
 use Rattle.sbpl_search.specs.Meaning.{Meaning}
 use Rattle.sbpl_search.specs.Query.{Query}
@@ -208,19 +210,22 @@ module _ {Action : Type 0} (means : Meaning Action) (laws : AreDetermined means)
       )
 
 -- the room is the lesser of the budget and of what the run has left
-room_filled : {Action : Type 0} (budget before : ℕ) (ps : List (PassRecord Action)) (spent : Bool)
-    → AreWithin budget before ps spent → FillsRoom (min budget (2 ^ 30 - before)) (expansions ps) spent
-room_filled budget before ps spent within = record {
+room_filled : {Action : Type 0} (budget before : ℕ) (time : Time) (ps : List (PassRecord Action)) (spent : Bool)
+    → time ≢ Late → AreWithin budget before time ps spent
+    → FillsRoom (min budget (2 ^ 30 - before)) (expansions ps) spent
+room_filled budget before time ps spent in_time within = record {
   within = omega (arith, within.of_plan, within.of_run);
-  used_up = λ e.
-      ⊎_elim
-      (λ (all : expansions ps ≡ budget). omega (arith, within.of_run))
-      (λ (all : before + expansions ps ≡ 2 ^ 30). omega (arith, within.of_plan))
-      (within.used_up e);
+  used_up = λ e. elim (within.used_up e) [
+    | inl all ↦ omega (arith, all, within.of_run)
+    | inr (inl all) ↦ omega (arith, all, within.of_plan)
+    | inr (inr late) ↦ absurd (in_time late)
+  ];
 }
 
 pub passes_are_one : {Action : Type 0} (means : Meaning Action) → AreDetermined means → PassesAreOne means
-passes_are_one means laws q h budget before eps old a b ps qs spent spent' none alike left right within within' =
+passes_are_one means laws q h budget before eps time time' old a b ps qs spent spent' none alike left right in_time in_time'
+    within within' =
     one_plan means laws (record q { guide = h }) ps qs eps old a b spent spent' (min budget (2 ^ 30 - before)) none
     (guided_passes means laws q h ps eps old a spent alike left) right
-    (room_filled budget before ps spent within) (room_filled budget before qs spent' within')
+    (room_filled budget before time ps spent in_time within)
+    (room_filled budget before time' qs spent' in_time' within')

@@ -1,14 +1,15 @@
 -- What the result of a plan shows.
-use Rattle.std.proofs.Common.{◌≡◌, ℕ, ◌+◌, ◌*◌, ◌<◌, ◌≤◌, ◌⊎◌, false, List, sym, ap, subst, arith, inl, inr, ◌^◌}
+use Rattle.std.proofs.Common.{◌≡◌, ℕ, ◌+◌, ◌*◌, ◌<◌, ◌≤◌, ◌⊎◌, false, List, sym, subst, arith, inl, inr, ◌^◌}
 use Rattle.std.proofs.Math.Nat.{mul-le-mul_left, mul-le-mul_right}
 use Rattle.sbpl_search.specs.sbpl_graph.declared.TheConstants.{FAR}
 use Rattle.sbpl_search.specs.sbpl_graph.Network.{Network}
 use Rattle.sbpl_search.specs.sbpl_graph.Laws.{IsConsistent, IsSound}
 use Rattle.sbpl_search.specs.sbpl_graph.Path.{IsFreePath}
 use Rattle.sbpl_search.specs.sbpl_graph.Certificate.{AreSupported, BoundHolds, NoneHolds, ShowBound}
-use Rattle.sbpl_search.specs.sbpl_labels.Counts.{Counts, IsSpent}
+use Rattle.sbpl_search.specs.sbpl_labels.Counts.{Counts, GrowBy, IsSpent}
 use Rattle.sbpl_search.specs.sbpl_labels.CutOff.{IsCutOff}
 use Rattle.sbpl_search.specs.sbpl_labels.Marks.{Marks, states_of, g_of, v_of}
+use Rattle.sbpl_search.specs.sbpl_labels.declared.time.Time.TheVariants.{Late}
 use Rattle.sbpl_plan.specs.declared.found.Found.{Found}
 use Rattle.sbpl_plan.specs.declared.found.Found.TheVariants as found
 use Rattle.sbpl_plan.specs.declared.result.FoundPath.{FoundPath}
@@ -109,13 +110,11 @@ outcome_is_known q eps m others found.Broken outcome.Unknown low last none tight
   | inr (inr (inr one)) ↦ tight one
 ]
 
--- a plan that may expand as many states in each pass as there are is spent only where the run is
+-- a plan that may expand as many states in each pass as there are is spent only where the run is, or the plan is late
 pub run_is_spent : (before after : Counts) (made few most states : ℕ)
-    → after ≡ record before { plan = before.plan + made; run = before.run + made } → IsSpent after → made < few * states
-    → few ≤ most → before.plan + most * states ≤ before.per_plan → after.run ≡ 2 ^ 30
-run_is_spent before after made few most states counted (inr run) less low enough = run
+    → GrowBy made before after → IsSpent after → made < few * states → few ≤ most
+    → before.plan + most * states ≤ before.per_plan → (after.run ≡ 2 ^ 30) ⊎ (after.time ≡ Late)
+run_is_spent before after made few most states counted (inr rest) less low enough = rest
 run_is_spent before after made few most states counted (inl plan) less low enough =
-    let same_plan : after.plan ≡ before.plan + made = ap (λ (c : Counts). c.plan) counted in
-    let same_most : after.per_plan ≡ before.per_plan = ap (λ (c : Counts). c.per_plan) counted in
     let more : few * states ≤ most * states = mul-le-mul_right states low in
-    absurd (omega arith)
+    absurd (omega (arith, counted.plan, counted.budget, plan, less, enough))

@@ -22,6 +22,6 @@ pub use passes::{PassRecord, Passes, Trace};
 pub use result::{Arcs, FoundPath, PlanResult, Planned};
 pub use sbpl_lists::{ListOf, Piece, push_all, push_bytes, push_field, push_number};
 pub use sbpl_search::{
-    Budget, FAR, Graph, Guide, Labels, Meter, NoMemory, PassEnd, Search, Walk, Zero, bound_holds,
-    bound_of, none_holds,
+    Budget, FAR, Graph, Guide, Labels, Meter, NoMemory, PassEnd, Search, Time, Timer, Walk, Zero,
+    bound_holds, bound_of, none_holds,
 };

@@ -15,12 +15,13 @@ use Rattle.sbpl_worlds.specs.sbpl_plan.Asked.{lowered}
 use Rattle.sbpl_worlds.specs.sbpl_plan.Observed.{AreTold, IsTold}
 use Rattle.sbpl_worlds.specs.sbpl_plan.OutOfMemory.{IsPartOfPlan}
 use Rattle.sbpl_worlds.specs.sbpl_plan.Passing.{AreFirstPasses, ArePasses, Inquiry, expansions, inquiry_of}
+use Rattle.sbpl_worlds.specs.sbpl_labels.declared.time.Time.{Time}
 use Rattle.sbpl_worlds.specs.sbpl_replan.Replanning.{Standing, StandsOutOfMemory, inquiry}
 use Rattle.sbpl_worlds.specs.sbpl_job.declared.job.Outputs.{Outputs}
 use Rattle.sbpl_worlds.specs.sbpl_job.declared.job.SearchJob.{SearchJob}
 use Rattle.sbpl_worlds.specs.sbpl_report.declared.record.TraceLine.{TraceLine}
 use Rattle.sbpl_worlds.specs.sbpl_promises.Asked.{PlannerOn, ask_of, from_by, to_by, workers_of}
-use Rattle.sbpl_worlds.specs.sbpl_promises.Headline.{Begins, Carried}
+use Rattle.sbpl_worlds.specs.sbpl_promises.Headline.{Before, Begins}
 use Rattle.sbpl_plans.specs.Planning.{IsPublishedInPart}
 use Rattle.sbpl_worlds.specs.sbpl_promises.Published.{Entry, founds, with_paths}
 use Rattle.sbpl_worlds.specs.sbpl_report.Traces.{traced_pass}
@@ -79,9 +80,9 @@ part_so Told So so part =
     record { passes = part.passes; told = so part.passes part.told; made = part.made; leaves = part.leaves }
 
 -- what follows from what an observer was told
-pub stands_so : {Action : Type 0} {means : Meaning Action} {q : Inquiry} {Ready : Type 0} {old new : Standing Action}
+pub stands_so : {Action : Type 0} {means : Meaning Action} {q : Inquiry} {time : Time} {Ready : Type 0} {old new : Standing Action}
     (Told So : List (PassRecord Action) → Type 0) → ((ps : List (PassRecord Action)) → Told ps → So ps)
-    → StandsOutOfMemory means q Ready Told old new → StandsOutOfMemory means q Ready So old new
+    → StandsOutOfMemory means q time Ready Told old new → StandsOutOfMemory means q time Ready So old new
 unfolding part_so
 stands_so Told So so (inl cut) =
     inl (record { part = part_so Told So so cut.part; within = cut.within; ready = cut.ready; same = cut.same })
@@ -101,7 +102,7 @@ on_err_is P (Err e) h = h
 -- the passes that were made before memory ran out are those of
 -- a plan that was broken off, and their paths were published
 module _ {W : Type 0} (by : PlannerOn W) (w : W) (guide : ℕ → ℕ) (start goal k : ℕ) (how : SearchJob) (outputs : Outputs)
-    (log shown : List Entry) (before : Option Carried) where
+    (log shown : List Entry) (before : Before) where
   pub broken_by : (old : Standing by.Action) (asked : Ask) (left : Marks) (ps : List (PassRecord by.Action))
       → by.on.says w (to_by by start goal) guide
       → Begins by.means by.on w (from_by by start goal) before old.search.labels old.search.raised
@@ -132,11 +133,11 @@ module _ {W : Type 0} (by : PlannerOn W) (w : W) (guide : ℕ → ℕ) (start go
   }
 
   -- and where memory ran out in the plan
-  pub stands_broken : (Ready : Type 0) (old new : Standing by.Action) (asked : Ask)
+  pub stands_broken : {time : Time} (Ready : Type 0) (old new : Standing by.Action) (asked : Ask)
       → by.on.says w (to_by by start goal) guide
       → Begins by.means by.on w (from_by by start goal) before old.search.labels old.search.raised
       → asked ≡ ask_of how outputs → old.search.goal ≡ to_by by start goal → old.search.workers ≡ workers_of how
-      → StandsOutOfMemory by.means (inquiry (by.on.network w) guide old asked) Ready (λ ps.
+      → StandsOutOfMemory by.means (inquiry (by.on.network w) guide old asked) time Ready (λ ps.
       shown ≡ with_paths log k 0 (founds ps)) old new → IsPublishedInPart by w how outputs start goal k log shown before
   stands_broken Ready old new asked is_guide begins same to by_workers (inl cut) =
       broken_by old asked new.search.labels cut.part.passes is_guide begins same to by_workers cut.part.made cut.part.told
@@ -145,7 +146,7 @@ module _ {W : Type 0} (by : PlannerOn W) (w : W) (guide : ℕ → ℕ) (start go
 
 -- before the first pass nothing was published
 pub none_published : {W : Type 0} {by : PlannerOn W} {w : W} {start goal k : ℕ} {how : SearchJob} {outputs : Outputs}
-    {log shown : List Entry} {before : Option Carried} → shown ≡ log
+    {log shown : List Entry} {before : Before} → shown ≡ log
     → IsPublishedInPart by w how outputs start goal k log shown before
 none_published same = record { found = []; broken = inl refl; shown_is = same }
 

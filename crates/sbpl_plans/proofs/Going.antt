@@ -21,7 +21,7 @@ use Rattle.sbpl_worlds.specs.sbpl_search.State.{State}
 use Rattle.sbpl_worlds.specs.sbpl_replan.Replanning.{BeginsWith, IsAimed, Standing, StaysTheSame}
 use Rattle.sbpl_worlds.specs.sbpl_report.declared.record.PlanRecord.{PlanRecord}
 use Rattle.sbpl_worlds.specs.sbpl_plan.declared.found.Found.{Found}
-use Rattle.sbpl_worlds.specs.sbpl_promises.Headline.{Carried, IsBrokenIn, IsBrokenOff, IsPlanOf}
+use Rattle.sbpl_worlds.specs.sbpl_promises.Headline.{Before, Carried, Changed, IsBrokenIn, IsBrokenOff, IsPlanOf, NoPlan}
 use Rattle.sbpl_worlds.specs.sbpl_promises.Published.{Entry, with_paths, with_plan, with_plans}
 use Rattle.sbpl_worlds.specs.sbpl_promises.Intents.{end_writes, last_write, plans_status}
 use Rattle.sbpl_plans.specs.Planning.{EndsOnePlan, GoesOnFrom, IsSetFor, carried_of}
@@ -66,7 +66,7 @@ module _ {W : Type 0} (plans : Plans W) where
   open plans use {by, written_of, told_of, world as w, batches, how, outputs, starts, goal}
 
   -- how the plans from plan k on end, where these entries were published and this was to be told before, and after
-  abbrev Ends : (k : ℕ) (log shown : List Entry) (told why : List ℕ) → Option Carried → (a b : DeskState) → (status : ℕ) → Type 0
+  abbrev Ends : (k : ℕ) (log shown : List Entry) (told why : List ℕ) → Before → (a b : DeskState) → (status : ℕ) → Type 0
   Ends k log shown told why before a b status =
       EndsPlans by written_of told_of w batches how outputs starts goal k log shown told why before a b status
 
@@ -81,20 +81,20 @@ module _ {W : Type 0} (plans : Plans W) where
     pub kept : by.on.cells.is_made now
     pub start_is : start ≡ starts k
     pub set : IsSetFor by.on how start goal r
-    pub before : Option Carried
+    pub before : Before
     pub goes_on : GoesOnFrom by.means by.on now start goal before r
     pub ends : (c : DeskState) (status : ℕ) (shown : List Entry) (why : List ℕ) → Ends k log shown told why before b c status
-        → Ends 0 first shown [] why None a c status
+        → Ends 0 first shown [] why NoPlan a c status
 
 module _ {W : Type 0} {plans : Plans W} where
   open plans use {by, written_of, told_of, world as w, batches, how, outputs, starts, goal}
 
   -- plan k was made and told, and then the others ended so
-  one_more : {k : ℕ} {log shown : List Entry} {told why : List ℕ} {before : Option Carried} {a b c : DeskState} {status : ℕ}
+  one_more : {k : ℕ} {log shown : List Entry} {told why : List ℕ} {before : Before} {a b c : DeskState} {status : ℕ}
       (carried : Carried) (r : PlanRecord) → IsMapAfter (by.on.cells.map w) batches k carried.map
       → IsPlanOf by (by.on.cells.over w carried.map) how outputs (starts k) goal k log before carried r
       → AreAppended a b (written_of r) → NoneFalls a.write_faults b.write_faults
-      → Ends plans (k + 1) (with_plan log r) shown (told ++ told_of r) why (Some carried) b c status
+      → Ends plans (k + 1) (with_plan log r) shown (told ++ told_of r) why (Changed carried) b c status
       → Ends plans k log shown told why before a c status
   one_more {k} {log} {told = told} {a = a} {b = b} {c = c} {status = status} carried r after plan made low e =
       let count : k + 1 + length e.records ≡ k + suc (length e.records) = omega arith in
@@ -117,7 +117,7 @@ module _ {W : Type 0} {plans : Plans W} where
       }
 
   -- memory ran out before plan k was made, or in it
-  pub breaks_off : {k : ℕ} {log shown : List Entry} {told : List ℕ} {before : Option Carried} {a b : DeskState} (found : List Found)
+  pub breaks_off : {k : ℕ} {log shown : List Entry} {told : List ℕ} {before : Before} {a b : DeskState} (found : List Found)
       → k ≤ length batches + 1 → IsBrokenIn by w batches how outputs starts goal k found
       → shown ≡ with_paths log k 0 found
       → Stays a.written b.written → Ends plans k log shown told [] before a b 9
@@ -136,12 +136,12 @@ module _ {W : Type 0} {plans : Plans W} where
   }
 
   -- memory ran out before plan k was begun
-  pub no_more : {k : ℕ} {log : List Entry} {told : List ℕ} {before : Option Carried} {a b : DeskState} → k ≤ length batches + 1
+  pub no_more : {k : ℕ} {log : List Entry} {told : List ℕ} {before : Before} {a b : DeskState} → k ≤ length batches + 1
       → Stays a.written b.written → Ends plans k log log told [] before a b 9
   no_more inside same = breaks_off [] inside (inl refl) refl same
 
   -- plan k was the last, and so was the last line
-  all_told : {k : ℕ} {log : List Entry} {told why : List ℕ} {before : Option Carried} {a b : DeskState} {status : ℕ}
+  all_told : {k : ℕ} {log : List Entry} {told why : List ℕ} {before : Before} {a b : DeskState} {status : ℕ}
       → k ≡ length batches + 1 → EndsAs a b (last_write ∷ []) 0 status → why ≡ (if status == 0 then told else [])
       → Ends plans k log log told why before a b status
   all_told {told = told} {status = status} last ends is = record {
@@ -159,7 +159,7 @@ module _ {W : Type 0} {plans : Plans W} where
   }
 
   -- plan k was made, but was not told
-  untold : {k : ℕ} {log : List Entry} {told : List ℕ} {before : Option Carried} {a b : DeskState} {status : ℕ}
+  untold : {k : ℕ} {log : List Entry} {told : List ℕ} {before : Before} {a b : DeskState} {status : ℕ}
       (carried : Carried) (r : PlanRecord) (e : WriteStop)
       → k ≤ length batches → IsMapAfter (by.on.cells.map w) batches k carried.map
       → IsPlanOf by (by.on.cells.over w carried.map) how outputs (starts k) goal k log before carried r
@@ -183,15 +183,15 @@ module _ {W : Type 0} {plans : Plans W} where
 
   -- so they end, where no more is told than the status says
   pub plainly : {shown first : List Entry} {why : List ℕ} {a b : DeskState} {n status : ℕ} → n ≡ status → why ≡ []
-      → Ends plans 0 first shown [] [] None a b status → Ends plans 0 first shown [] why None a b n
+      → Ends plans 0 first shown [] [] NoPlan a b status → Ends plans 0 first shown [] why NoPlan a b n
   plainly {shown} {first} {why} {a} {b} {n} {status} is none ends =
-      subst (λ (k : ℕ). Ends plans 0 first shown [] why None a b k) (sym is)
-      (subst (λ (l : List ℕ). Ends plans 0 first shown [] l None a b status) (sym none) ends)
+      subst (λ (k : ℕ). Ends plans 0 first shown [] why NoPlan a b k) (sym is)
+      (subst (λ (l : List ℕ). Ends plans 0 first shown [] l NoPlan a b status) (sym none) ends)
 
   pub sets_out : {start : ℕ} {log : List Entry} {told : List ℕ} {r : Standing by.Action} {a : DeskState}
       → IsTerrain by.on.network by.on.cells → IsMapAfter (by.on.cells.map w) batches 0 (by.on.cells.map w)
       → by.on.cells.is_made w → start ≡ starts 0 → IsSetFor by.on how start goal r
-      → GoesOnFrom by.means by.on w start goal None r → told ≡ []
+      → GoesOnFrom by.means by.on w start goal NoPlan r → told ≡ []
       → IsGoing plans w 0 start log log told r a a
   sets_out {start} {log} {a = a} law first kept start_is set begun none = record {
     same = sym (law.present w);
@@ -200,9 +200,9 @@ module _ {W : Type 0} {plans : Plans W} where
     kept = kept;
     start_is = start_is;
     set = set;
-    before = None;
+    before = NoPlan;
     goes_on = begun;
-    ends = λ c status shown why e. subst (λ (l : List ℕ). Ends plans 0 log shown l why None a c status) none e;
+    ends = λ c status shown why e. subst (λ (l : List ℕ). Ends plans 0 log shown l why NoPlan a c status) none e;
   }
 
   pub at_last : {now : W} {k start : ℕ} {first log : List Entry} {told : List ℕ} {r : Standing by.Action} {a b : DeskState} (n : ℕ)
@@ -213,7 +213,7 @@ module _ {W : Type 0} {plans : Plans W} where
   module _ {now : W} {k start : ℕ} {first log : List Entry} {told : List ℕ} {r : Standing by.Action} {a b : DeskState}
       (shown : List Entry) (s : Standing by.Action) (c : DeskState)
       (going : IsGoing plans now k start first log told r a b) where
-    on_that : (before : Option Carried) (p : PlanRecord)
+    on_that : (before : Before) (p : PlanRecord)
         → IsPlanOf by now how outputs start goal k log before (carried_of (by.on.cells.map now) s) p
         → IsPlanOf by (by.on.cells.over w (by.on.cells.map now)) how outputs (starts k) goal k log before
         (carried_of (by.on.cells.map now) s) p
@@ -223,7 +223,7 @@ module _ {W : Type 0} {plans : Plans W} where
         (subst (λ (v : W). IsPlanOf by v how outputs start goal k log before (carried_of (by.on.cells.map now) s) p)
         going.same plan)
 
-    broken_on_that : (before : Option Carried) (found : List Found)
+    broken_on_that : (before : Before) (found : List Found)
         → (found ≡ []) ⊎ IsBrokenOff by now how outputs start goal before found
         → IsBrokenIn by w batches how outputs starts goal k found
     broken_on_that before found (inl none) = inl none
@@ -239,13 +239,13 @@ module _ {W : Type 0} {plans : Plans W} where
     -- what holds of the plan that is made next
     abbrev pub NextEnds : Result (List ℕ) WriteStop → Type 0
     NextEnds result =
-        (before : Option Carried) → GoesOnFrom by.means by.on now start goal before r
+        (before : Before) → GoesOnFrom by.means by.on now start goal before r
         → EndsOnePlan by written_of told_of now how outputs start goal k log shown before
         (carried_of (by.on.cells.map now) s) b c result
 
     -- the next plan was not told
     pub stops : {status : ℕ} (e : WriteStop) → NextEnds (Err e) → status ≡ status_after {T = Unit {0}} 9 (Err e)
-        → Ends plans 0 first shown [] [] None a c status
+        → Ends plans 0 first shown [] [] NoPlan a c status
     stops {status} e made is = going.ends c status shown [] (elim (made going.before going.goes_on) [
       | inl (out, same, part) ↦
           subst (λ (n : ℕ). Ends plans k log shown told [] going.before b c n) (sym (is ∙ nine out))
@@ -263,27 +263,27 @@ module _ {W : Type 0} {plans : Plans W} where
     -- it was told, and then the others ended so
     pub tells : {d : DeskState} {status : ℕ} {later : List Entry} {why line : List ℕ} → NextEnds (Ok line)
         → NoneFalls b.write_faults c.write_faults
-        → Ends plans (k + 1) shown later (told ++ line) why (Some (carried_of (by.on.cells.map now) s)) c d status
-        → Ends plans 0 first later [] why None a d status
+        → Ends plans (k + 1) shown later (told ++ line) why (Changed (carried_of (by.on.cells.map now) s)) c d status
+        → Ends plans 0 first later [] why NoPlan a d status
     tells {d} {status} {later} {why} {line} made low e =
         let of_it = made going.before going.goes_on in
         going.ends d status later why
         (one_more (carried_of (by.on.cells.map now) s) of_it.0 going.after
         (on_that going.before of_it.0 of_it.1.plan) of_it.2 low
         (subst (λ (l : List Entry). Ends plans (k + 1) l later (told ++ told_of of_it.0) why
-        (Some (carried_of (by.on.cells.map now) s)) c d status) of_it.1.shown_is
+        (Changed (carried_of (by.on.cells.map now) s)) c d status) of_it.1.shown_is
         (subst (λ (x : List ℕ). Ends plans (k + 1) shown later (told ++ x) why
-        (Some (carried_of (by.on.cells.map now) s)) c d status) of_it.3 e)))
+        (Changed (carried_of (by.on.cells.map now) s)) c d status) of_it.3 e)))
 
     -- it was the last, and the last line was written, or was not
     pub tells_last : {d : DeskState} {status : ℕ} {why line : List ℕ} → NextEnds (Ok line)
         → NoneFalls b.write_faults c.write_faults → k ≡ length batches → EndsAs c d (last_write ∷ []) 0 status
-        → why ≡ (if status == 0 then told ++ line else []) → Ends plans 0 first shown [] why None a d status
+        → why ≡ (if status == 0 then told ++ line else []) → Ends plans 0 first shown [] why NoPlan a d status
     tells_last made low last ends is = tells made low (all_told (omega arith) ends is)
 
     -- it was told, and memory ran out after it
     pub tells_no_more : {line : List ℕ} → NextEnds (Ok line) → NoneFalls b.write_faults c.write_faults
-        → Ends plans 0 first shown [] [] None a c 9
+        → Ends plans 0 first shown [] [] NoPlan a c 9
     tells_no_more made low = tells made low (no_more (let room = going.inside in omega arith) (λ name. refl))
 
     -- it was told, then the map was changed, and then the start moved
@@ -320,7 +320,7 @@ module _ {W : Type 0} {plans : Plans W} where
             workers_are = ap (λ (x : State by.Action). x.workers) aimed.search ∙ stays.workers ∙ set.workers_are;
             budget_is = ap (λ (n : Counts). n.per_plan) aimed.counts ∙ stays.per_plan ∙ set.budget_is;
           };
-          before = Some (carried_of (by.on.cells.map now) s);
+          before = Changed (carried_of (by.on.cells.map now) s);
           goes_on = record {
             begins =
                 subst (λ (v : W). BeginsWith by.means by.on.network by.on.cells v next s.search.labels
@@ -334,7 +334,7 @@ module _ {W : Type 0} {plans : Plans W} where
             counted = ap (λ (n : Counts). n.run) (sym counts ∙ sym aimed.counts);
           };
           ends = λ d status later why e. tells made low (subst (λ (l : List ℕ). Ends plans (k + 1) shown later l why
-              (Some (carried_of (by.on.cells.map now) s)) c d status) adds e);
+              (Changed (carried_of (by.on.cells.map now) s)) c d status) adds e);
         }
       where
         back : by.on.cells.over next (by.on.cells.map now) ≡ now
@@ -347,8 +347,8 @@ pub ends_by : {W : Type 0} {on : Site W} {written_of : PlanRecord → List Write
     {batches : List (List change.Write)} {how : SearchJob} {outputs : Outputs} {starts : ℕ → ℕ} {goal : ℕ}
     {log shown : List Entry} {why : List ℕ} {a b : DeskState} {status : ℕ}
     (p : Planner) → how.planner ≡ p
-    → EndsPlans (planner_as_is on p) written_of told_of w batches how outputs starts goal 0 log shown [] why None a b status
-    → EndsPlans (planner_as_is on how.planner) written_of told_of w batches how outputs starts goal 0 log shown [] why None a b status
+    → EndsPlans (planner_as_is on p) written_of told_of w batches how outputs starts goal 0 log shown [] why NoPlan a b status
+    → EndsPlans (planner_as_is on how.planner) written_of told_of w batches how outputs starts goal 0 log shown [] why NoPlan a b status
 ends_by {W} {on} {written_of} {told_of} {w} {batches} {how} {outputs} {starts} {goal} {log} {shown} {why} {a} {b} {status} p is ends =
     subst (λ (x : Planner).
-    EndsPlans (planner_as_is on x) written_of told_of w batches how outputs starts goal 0 log shown [] why None a b status) (sym is) ends
+    EndsPlans (planner_as_is on x) written_of told_of w batches how outputs starts goal 0 log shown [] why NoPlan a b status) (sym is) ends

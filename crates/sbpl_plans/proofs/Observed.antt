@@ -8,6 +8,7 @@ use Rattle.sbpl_worlds.specs.sbpl_plan.Passing.{Inquiry}
 use Rattle.sbpl_worlds.specs.sbpl_plan.declared.passes.PassRecord.{PassRecord}
 use Rattle.sbpl_worlds.specs.sbpl_plan.declared.result.Planned.{Planned}
 use Rattle.sbpl_worlds.specs.sbpl_promises.Published.{founds, with_paths}
+use Rattle.sbpl_worlds.specs.sbpl_labels.declared.time.Time.{Time}
 use Rattle.sbpl_worlds.specs.sbpl_replan.Replanning.{Standing, StandsOutOfMemory}
 use Rattle.sbpl_worlds.specs.sbpl_search.Meaning.{Meaning}
 use Rattle.sbpl_plans.specs.Boards.{IsSamePublisher, entries_of}
@@ -52,8 +53,8 @@ module _ {R : Type 0} (old begun new : LiveBoard R) (plan : ℕ) (stays : IsSame
   same : {Action : Type 0} (ps : List (PassRecord Action)) → AreAll ps → IsSamePublisher old new
   same ps told = then_same old begun new stays (found ps told).1.0
 
-  pub stands_same : {Action : Type 0} {means : Meaning Action} {q : Inquiry} {Ready : Type 0} {was now : Standing Action}
-      → StandsOutOfMemory means q Ready AreAll was now → IsSamePublisher old new
+  pub stands_same : {Action : Type 0} {means : Meaning Action} {q : Inquiry} {time : Time} {Ready : Type 0} {was now : Standing Action}
+      → StandsOutOfMemory means q time Ready AreAll was now → IsSamePublisher old new
   stands_same (inl cut) = same cut.part.passes cut.part.told
   stands_same (inr cut) = same cut.part.passes cut.part.told
 

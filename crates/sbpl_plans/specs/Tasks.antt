@@ -1,11 +1,12 @@
 -- What the plans of a job are asked for, and how they end.
-use Rattle.std.specs.Prelude.{ℕ, ◌<◌, List, [], None}
+use Rattle.std.specs.Prelude.{ℕ, ◌<◌, List, []}
 use Rattle.sbpl_worlds.specs.sbpl_job.Jobs.{IsSearchJob}
 use Rattle.sbpl_plans.specs.Planning.{IsSetFor}
 use Rattle.sbpl_plans.specs.declared.task.PlanStart.{PlanStart}
 use Rattle.sbpl_plans.specs.declared.task.Task.{Task}
 use Rattle.sbpl_worlds.specs.sbpl_promises.Asked.{PlannerOn}
 use Rattle.sbpl_worlds.specs.sbpl_promises.Causes.{AreUpdatesIn}
+use Rattle.sbpl_worlds.specs.sbpl_promises.Headline.{NoPlan}
 use Rattle.sbpl_worlds.specs.sbpl_promises.Promises.{EndsPlans}
 use Rattle.sbpl_worlds.specs.sbpl_promises.Published.{Entry}
 use Rattle.sbpl_worlds.specs.sbpl_promises.Sites.{Site, start_after}
@@ -39,4 +40,4 @@ pub record CanPlan {Action H W : Type 0} (on : Site W) (means : Meaning Action) 
 -- how these plans end, which begin in a world: what was published before and after, what the desk held, the status, and what people are told
 abbrev pub EndsTask : {W : Type 0} → PlannerOn W → (PlanRecord → List Write) → (PlanRecord → List ℕ) → W → Task → (log shown : List Entry) → (before after : DeskState) → Ending → Type 0
 EndsTask by written_of told_of w t log shown before after e =
-    EndsPlans by written_of told_of w t.updates.now.batches t.how.now t.outputs.now (start_after by.on.reporting w t.start t.updates.now.moves) t.goal 0 log shown [] e.why None before after (number_of e.status)
+    EndsPlans by written_of told_of w t.updates.now.batches t.how.now t.outputs.now (start_after by.on.reporting w t.start t.updates.now.moves) t.goal 0 log shown [] e.why NoPlan before after (number_of e.status)

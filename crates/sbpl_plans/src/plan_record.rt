@@ -3,7 +3,7 @@
 ghost use Rattle.std.specs.Prelude.{map, [], if◌then◌else◌, ◌≡◌, ◌+◌, ◌^◌, ◌<◌, ◌≤◌, ℕ, length};
 ghost use Rattle.std.specs.Prelude.{IfOk, MatchBool, None, OnErr, Option, Some};
 ghost use Rattle.sbpl_worlds.specs.sbpl_promises.Blocked.{IsBlockageOf};
-ghost use Rattle.sbpl_worlds.specs.sbpl_promises.Headline.{AreSteps, Carried, IsKnownWithin, IsNoneThere, IsPathFrom};
+ghost use Rattle.sbpl_worlds.specs.sbpl_promises.Headline.{AreSteps, Before, IsKnownWithin, IsNoneThere, IsPathFrom};
 ghost use Rattle.sbpl_worlds.specs.sbpl_promises.Headline.{IsSearched, IsWithinBound, KeepsPromises, Joins, JoinsStates};
 ghost use Rattle.sbpl_worlds.specs.sbpl_promises.Headline.{IsSameResult, IsToldOf};
 ghost use Rattle.sbpl_worlds.specs.sbpl_promises.Sites.{Leads, from_on, to_on};
@@ -236,7 +236,7 @@ where
     requires few { length (entries_of live.old) + MOST_PASSES < 2 ^ 63 }
     ensures number { IfOk result (λ r. r.plan ≡ at.plan) }
     ensures promises { IfOk result (KeepsPromises W.Workspace session.old.world at.start task.now.goal task.now.how.now.bound) }
-    ensures searched { (before : Option Carried)
+    ensures searched { (before : Before)
         → GoesOnFrom S.meaning W.Workspace session.old.world at.start task.now.goal before (standing_of session.old)
         → IfOk result (IsSearched (planner_on W.Workspace S.meaning S.Action.line) session.old.world task.now.how.now
         task.now.outputs.now at.start task.now.goal before
@@ -246,7 +246,7 @@ where
     ensures world { session.new.world ≡ session.old.world }
     ensures shown { IfOk result (λ r. entries_of live.new ≡ with_plan (entries_of live.old) r) }
     ensures incumbent { IfOk result (λ r. r.incumbent ≡ newest (entries_of live.new)) }
-    ensures broken { (before : Option Carried)
+    ensures broken { (before : Before)
         → GoesOnFrom S.meaning W.Workspace session.old.world at.start task.now.goal before (standing_of session.old)
         → OnErr result (IsPublishedInPart (planner_on W.Workspace S.meaning S.Action.line) session.old.world task.now.how.now
         task.now.outputs.now at.start task.now.goal at.plan (entries_of live.old) (entries_of live.new) before) }
@@ -256,7 +256,7 @@ where
     let ask = ask_of(task.how, task.outputs);
     let raised = raised_of(alloc, session.raised(), ask.traced)?;
     live.begin(at.plan);
-    let planned = session.plan(alloc, &ask, live)?;
+    let planned = session.plan(alloc, &ask, None, live)?;
     let incumbent = live.newest()?;
     let labels = section_of(alloc, session, at.plan, &planned.outcome, task.outputs)?;
     let expanded = session.expanded();

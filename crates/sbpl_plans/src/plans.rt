@@ -1,7 +1,7 @@
 //! The plans of a job: one on the map as it is, and one after each batch of changes.
 
-ghost use Rattle.std.specs.Prelude.{◌≡◌, ◌==◌, if◌then◌else◌, ◌+◌, ◌^◌, ◌<◌, ◌≤◌, ◌∷◌, ◌++◌, [], length, IfOk, None, Option};
-ghost use Rattle.sbpl_worlds.specs.sbpl_promises.Headline.{Carried};
+ghost use Rattle.std.specs.Prelude.{◌≡◌, ◌==◌, if◌then◌else◌, ◌+◌, ◌^◌, ◌<◌, ◌≤◌, ◌∷◌, ◌++◌, [], length, IfOk};
+ghost use Rattle.sbpl_worlds.specs.sbpl_promises.Headline.{Before, NoPlan};
 ghost use Rattle.sbpl_worlds.specs.sbpl_promises.Asked.{planner_on};
 ghost use Rattle.sbpl_worlds.specs.sbpl_replan.Replanning.{IsReady, standing_of};
 ghost use Rattle.sbpl_plans.specs.Planning.{EndsOnePlan, GoesOnFrom, IsNewSearch, IsSetFor, carried_of};
@@ -37,7 +37,7 @@ where
     S::Action: Traced,
     requires can { CanPlan W.Workspace S.meaning W.Best.is_made_for task.now at session.old }
     requires few { length (entries_of live.old) + MOST_PASSES < 2 ^ 63 }
-    ensures ends { (before : Option Carried)
+    ensures ends { (before : Before)
         → GoesOnFrom S.meaning W.Workspace session.old.world at.start task.now.goal before (standing_of session.old)
         → EndsOnePlan (planner_on W.Workspace S.meaning S.Action.line) (T.written telling.now) (T.told telling.now)
         session.old.world
@@ -74,7 +74,7 @@ fn open_session<W: Workspace + Drop, S: Search<W, W::Best> + Drop>(
     ensures ready { IfOk result (IsReady S.meaning W.network W.Best.is_made_for) }
     ensures set { IfOk result (λ s. IsSetFor W.Workspace task.now.how.now task.now.start task.now.goal (standing_of s)) }
     ensures begun { IfOk result (λ s.
-        GoesOnFrom S.meaning W.Workspace world task.now.start task.now.goal None (standing_of s)) }
+        GoesOnFrom S.meaning W.Workspace world task.now.start task.now.goal NoPlan (standing_of s)) }
 {
     let mut session = Session::open(alloc, world, search, task.how.budget)?;
     session.meter_by(meter);

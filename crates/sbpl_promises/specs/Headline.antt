@@ -103,16 +103,25 @@ pub record Carried : Type 0 where
   pub labels : Marks
   pub expanded : ℕ
 
+-- what was before a plan: none; or a plan, after which the map was changed, or not
+pub data Before : Type 0 where
+  NoPlan : Before
+  Changed : Carried → Before
+  Unchanged : Carried → Before
+
 -- how many states were expanded before a plan
-abbrev pub expanded_before : Option Carried → ℕ
-expanded_before None = 0
-expanded_before (Some b) = b.expanded
+abbrev pub expanded_before : Before → ℕ
+expanded_before NoPlan = 0
+expanded_before (Changed b) = b.expanded
+expanded_before (Unchanged b) = b.expanded
 
 -- the labels that a plan in a world begins with, and the states that were raised for it: initial ones, with the state from which the
--- search goes as their start, and none; and after another plan what the planner makes of the labels that it left
-abbrev pub Begins : {Action W : Type 0} → Meaning Action → Site W → W → (from : ℕ) → Option Carried → Marks → (raised : List ℕ) → Type 0
-Begins means on w from None m raised = AreInitial m (on.network w).states from × (raised ≡ [])
-Begins means on w from (Some b) m raised = BeginsWith means on.network on.cells (on.cells.over w b.map) w b.labels m raised
+-- search goes as their start, and none; and after another plan the labels that it left, where the map was changed what the planner
+-- makes of them
+abbrev pub Begins : {Action W : Type 0} → Meaning Action → Site W → W → (from : ℕ) → Before → Marks → (raised : List ℕ) → Type 0
+Begins means on w from NoPlan m raised = AreInitial m (on.network w).states from × (raised ≡ [])
+Begins means on w from (Changed b) m raised = BeginsWith means on.network on.cells (on.cells.over w b.map) w b.labels m raised
+Begins means on w from (Unchanged b) m raised = m ≡ b.labels
 
 -- a plan that was spent is marked with its expansions, which are the budget, or the run's are 2 ^ 30; one that was not is not marked
 abbrev pub IsMarked : (budget before : ℕ) → Bool → PlanRecord → Type 0
@@ -124,7 +133,7 @@ IsMarked budget before spent r = MatchBool spent
 -- raised before its passes, where they are to be told; its passes in turn, by the workers that are asked for, as few as the step allows; the result by the final labels,
 -- and a section of these labels, where they are to be written. A plan expands no more than its budget, and the run no more than 2 ^ 30.
 -- A budget for each state in each pass, as often as the planner may take one, is not spent, unless the run's is.
-pub record IsSearched {W : Type 0} (by : PlannerOn W) (w : W) (how : SearchJob) (outputs : Outputs) (start goal : ℕ) (before : Option Carried) (carried : Carried) (r : PlanRecord) : Type 0 where
+pub record IsSearched {W : Type 0} (by : PlannerOn W) (w : W) (how : SearchJob) (outputs : Outputs) (start goal : ℕ) (before : Before) (carried : Carried) (r : PlanRecord) : Type 0 where
   pub guide : ℕ → ℕ
   pub is_guide : by.on.says w (to_by by start goal) guide
   pub begun : Marks
@@ -148,7 +157,7 @@ pub record IsSearched {W : Type 0} (by : PlannerOn W) (w : W) (how : SearchJob) 
   pub labels : IsThere (is_some outputs.labels) (IsShown outputs.form (by.on.network w) guide (from_by by start goal) (to_by by start goal) r.plan carried.labels found) r.labels
 
 -- Memory ran out in a plan: it began as a plan does, and its passes so far found this.
-pub record IsBrokenOff {W : Type 0} (by : PlannerOn W) (w : W) (how : SearchJob) (outputs : Outputs) (start goal : ℕ) (before : Option Carried) (found : List Found) : Type 0 where
+pub record IsBrokenOff {W : Type 0} (by : PlannerOn W) (w : W) (how : SearchJob) (outputs : Outputs) (start goal : ℕ) (before : Before) (found : List Found) : Type 0 where
   pub guide : ℕ → ℕ
   pub is_guide : by.on.says w (to_by by start goal) guide
   pub begun : Marks
@@ -162,10 +171,10 @@ pub record IsBrokenOff {W : Type 0} (by : PlannerOn W) (w : W) (how : SearchJob)
 -- memory ran out in plan k, on the map after the first k batches, or before its first pass
 abbrev pub IsBrokenIn : {W : Type 0} → PlannerOn W → W → List (List Write) → SearchJob → Outputs → (starts : ℕ → ℕ) → (goal k : ℕ) → List Found → Type 0
 IsBrokenIn by w batches how outputs starts goal k found =
-    (found ≡ []) ⊎ ((m : CellMap) × (before : Option Carried) × IsMapAfter (by.on.cells.map w) batches k m × IsBrokenOff by (by.on.cells.over w m) how outputs (starts k) goal before found)
+    (found ≡ []) ⊎ ((m : CellMap) × (before : Before) × IsMapAfter (by.on.cells.map w) batches k m × IsBrokenOff by (by.on.cells.over w m) how outputs (starts k) goal before found)
 
 -- the record of plan k in a world, whose graph has just the arcs that its files make on its map; these entries were published before it, and it tells the newest after it
-pub record IsPlanOf {W : Type 0} (by : PlannerOn W) (w : W) (how : SearchJob) (outputs : Outputs) (start goal k : ℕ) (log : List Entry) (before : Option Carried) (carried : Carried) (r : PlanRecord) : Type 0 where
+pub record IsPlanOf {W : Type 0} (by : PlannerOn W) (w : W) (how : SearchJob) (outputs : Outputs) (start goal k : ℕ) (log : List Entry) (before : Before) (carried : Carried) (r : PlanRecord) : Type 0 where
   pub number : r.plan ≡ k
   pub is_world : by.on.cells.is_made w
   pub arcs : by.on.reporting.arcs (by.on.reporting.told w) w
@@ -175,12 +184,12 @@ pub record IsPlanOf {W : Type 0} (by : PlannerOn W) (w : W) (how : SearchJob) (o
 
 -- The records of plans in turn, the first of which is plan k: each is made in the world on the map after as many batches as its
 -- number, from its own start, and goes on from the plan before it.
-abbrev pub AreRecords : {W : Type 0} → PlannerOn W → W → List (List Write) → SearchJob → Outputs → (starts : ℕ → ℕ) → (goal k : ℕ) → (log : List Entry) → Option Carried → List PlanRecord → Type 0
+abbrev pub AreRecords : {W : Type 0} → PlannerOn W → W → List (List Write) → SearchJob → Outputs → (starts : ℕ → ℕ) → (goal k : ℕ) → (log : List Entry) → Before → List PlanRecord → Type 0
 AreRecords by w batches how outputs starts goal k log before [] = Unit {0}
 AreRecords by w batches how outputs starts goal k log before (r ∷ rs) =
     (carried : Carried) × IsMapAfter (by.on.cells.map w) batches k carried.map
     × IsPlanOf by (by.on.cells.over w carried.map) how outputs (starts k) goal k log before carried r
-    × AreRecords by w batches how outputs starts goal (k + 1) (with_plan log r) (Some carried) rs
+    × AreRecords by w batches how outputs starts goal (k + 1) (with_plan log r) (Changed carried) rs
 
 -- These are records of plans in a world of a site, from the start of its environment, or where the robot was last said to be, to its end: of
 -- plan 0 on the map as it is, and then of one plan after each batch of changes. They are all of them, or the first few, and then
@@ -190,7 +199,7 @@ pub record ArePlans {W : Type 0} (on : Site W) (w : W) (updates : Updates) (how 
   pub goal : ℕ
   pub start_is : on.reporting.starts w start
   pub goal_is : on.reporting.ends w goal
-  pub each : AreRecords (planner_for on how.planner) w updates.batches how outputs (start_after on.reporting w start updates.moves) goal 0 log None records
+  pub each : AreRecords (planner_for on how.planner) w updates.batches how outputs (start_after on.reporting w start updates.moves) goal 0 log NoPlan records
   pub broken_in : IsBrokenIn (planner_for on how.planner) w updates.batches how outputs (start_after on.reporting w start updates.moves) goal (length records) broken
   pub none_broken : all ≡ true → broken ≡ []
   pub few : length records ≤ length updates.batches + 1

@@ -20,7 +20,7 @@ use Rattle.sbpl_promises.specs.declared.section_stop.SectionStop.{SectionStop}
 use Rattle.sbpl_promises.specs.declared.section_stop.SectionStop.TheVariants as section
 use Rattle.sbpl_promises.specs.Checked.{AreChecked, Holding, IsShownHolding, case_of, to_in}
 use Rattle.sbpl_report.specs.sbpl_plan.declared.found.Found.{Found}
-use Rattle.sbpl_promises.specs.Headline.{AreRecords, Carried, IsBrokenIn}
+use Rattle.sbpl_promises.specs.Headline.{AreRecords, Before, IsBrokenIn}
 use Rattle.sbpl_promises.specs.Published.{Entry, with_paths, with_plans}
 use Rattle.sbpl_report.specs.sbpl_job.declared.job.Job.{Job}
 use Rattle.sbpl_report.specs.sbpl_job.declared.job.Job.TheVariants as job
@@ -181,7 +181,7 @@ pub record EndsJob (before after : DeskState) (old new : List Entry) (j : Job) (
 
 -- How the making of plans, the first of which is plan k, ends by the program's status; what was published and what people were to be told before it, and
 -- after. What is written and what is told of a plan is given, and it is told where all were made and written.
-pub record EndsPlans {W : Type 0} (by : PlannerOn W) (written_of : PlanRecord → List Write) (told_of : PlanRecord → List ℕ) (w : W) (batches : List (List change.Write)) (how : SearchJob) (outputs : Outputs) (starts : ℕ → ℕ) (goal k : ℕ) (log shown : List Entry) (told why : List ℕ) (left : Option Carried) (before after : DeskState) (status : ℕ) : Type 0 where
+pub record EndsPlans {W : Type 0} (by : PlannerOn W) (written_of : PlanRecord → List Write) (told_of : PlanRecord → List ℕ) (w : W) (batches : List (List change.Write)) (how : SearchJob) (outputs : Outputs) (starts : ℕ → ℕ) (goal k : ℕ) (log shown : List Entry) (told why : List ℕ) (left : Before) (before after : DeskState) (status : ℕ) : Type 0 where
   pub records : List PlanRecord
   pub all : Bool
   pub broken : List Found

@@ -1,11 +1,12 @@
 -- Labels before and after a change of the map, and what is left where memory runs out.
-use Rattle.std.proofs.Common.{◌≡◌, ℕ, ◌+◌, ◌^◌, ◌<◌, List, slice_index_or, Result, Ok, Err, sym, ◌∙◌, ap, subst}
+use Rattle.std.proofs.Common.{◌≡◌, ℕ, ◌^◌, ◌<◌, List, slice_index_or, Result, Ok, Err, sym, ◌∙◌, ap, subst}
 use Rattle.std.proofs.Common.{arith, inl, inr}
 use Rattle.std.specs.Prelude.{OnErr}
 use Rattle.std.proofs.lemmas.List.{get_or_default}
 use Rattle.sbpl_plan.specs.sbpl_graph.Network.{Network}
 use Rattle.sbpl_plan.specs.sbpl_labels.Counts.{AreCounts, Counts}
 use Rattle.sbpl_plan.specs.sbpl_labels.Marks.{Marks}
+use Rattle.sbpl_plan.specs.sbpl_labels.declared.time.Time.{Time}
 use Rattle.sbpl_plan.specs.sbpl_search.Changed.{IsChangeable}
 use Rattle.sbpl_plan.specs.sbpl_search.Meaning.{Meaning}
 use Rattle.sbpl_plan.specs.sbpl_search.Ready.{AreUsable, IsStartFresh}
@@ -13,7 +14,7 @@ use Rattle.sbpl_plan.specs.sbpl_search.State.{State}
 use Rattle.sbpl_heur.specs.sbpl_serial.Repaired.{ExactWhereSame}
 use Rattle.sbpl_plan.specs.declared.passes.PassRecord.{PassRecord}
 use Rattle.sbpl_plan.specs.OutOfMemory.{RunsOutOfMemory}
-use Rattle.sbpl_plan.specs.Passing.{Inquiry, expansions}
+use Rattle.sbpl_plan.specs.Passing.{Inquiry}
 use Rattle.sbpl_heur.specs.sbpl_terrain.Affected.{AreStates, KeepArcsElsewhere}
 use Rattle.sbpl_heur.specs.sbpl_terrain.Cells.{Cells, DifferInCostsAlone, IsTerrain}
 use Rattle.sbpl_heur.specs.sbpl_terrain.declared.arc_end.ArcEnd.TheVariants as end
@@ -60,27 +61,24 @@ on_err_so (Ok x) P Q so h = tt
 on_err_so (Err e) P Q so h = so h
 
 -- what is left where memory ran out in a plan
-pub stands : {Action : Type 0} (means : Meaning Action) (q : Inquiry) (Ready : Type 0) (Told : List (PassRecord Action) → Type 0)
+pub stands : {Action : Type 0} (means : Meaning Action) (q : Inquiry) (time : Time) (Ready : Type 0) (Told : List (PassRecord Action) → Type 0)
     (old new : Standing Action) → AreCounts new.counts
     → (means.ready q.network new.search.labels new.counts.run → new.search.goal ≡ old.search.goal
     → IsStartFresh new.search.labels → Ready)
-    → RunsOutOfMemory means q q.ask.first old.search new.search (at_plan old.counts) new.counts Told
-    → StandsOutOfMemory means q Ready Told old new
-stands means q Ready Told old new are again (inl part) = inl (record {
+    → RunsOutOfMemory means q q.ask.first old.search new.search (at_plan time old.counts) new.counts Told
+    → StandsOutOfMemory means q time Ready Told old new
+stands means q time Ready Told old new are again (inl part) = inl (record {
   part = part;
-  within =
-      let used : new.counts.plan ≡ 0 + expansions part.passes = ap (λ (c : Counts). c.plan) part.leaves.counted in
-      let budget : new.counts.per_plan ≡ old.counts.per_plan = ap (λ (c : Counts). c.per_plan) part.leaves.counted in
-      omega (arith, are.within_plan);
+  within = omega (arith, are.within_plan, part.leaves.counted.plan, part.leaves.counted.budget);
   ready = again part.leaves.ready part.leaves.same_goal part.leaves.fresh;
   same = record {
     start = part.leaves.start;
     goal = part.leaves.same_goal;
     workers = part.leaves.same_workers;
-    per_plan = ap (λ (c : Counts). c.per_plan) part.leaves.counted;
+    per_plan = part.leaves.counted.budget;
   };
 })
-stands means q Ready Told old new are again (inr cut) = inr cut
+stands means q time Ready Told old new are again (inr cut) = inr cut
 
 -- another plan may begin where the search went on to the same goal on the same map
 pub ready_again : {Action H W : Type 0} (means : Meaning Action) (network : W → Network) (is_made_for : H → W → ℕ → Type 0)

@@ -2,6 +2,7 @@
 use Rattle.std.specs.Prelude.{ℕ, true, List, [], ◌≡◌, ◌≢◌, ◌≤◌, ◌⊎◌}
 use Rattle.sbpl_plan.specs.sbpl_labels.Counts.{Counts}
 use Rattle.sbpl_plan.specs.sbpl_labels.Marks.{AreInitial, Marks, states_of}
+use Rattle.sbpl_plan.specs.sbpl_labels.declared.time.Time.{Time}
 use Rattle.sbpl_plan.specs.sbpl_search.Meaning.{Meaning}
 use Rattle.sbpl_plan.specs.sbpl_search.Ready.{IsStartFresh}
 use Rattle.sbpl_plan.specs.sbpl_search.State.{State}
@@ -29,9 +30,9 @@ pub record Standing (Action : Type 0) : Type 0 where
   pub search : State Action
   pub counts : Counts
 
--- the counts as a plan begins
-abbrev pub at_plan : Counts → Counts
-at_plan counts = record counts { plan = 0 }
+-- the counts as a plan begins, with a limit of time or without
+abbrev pub at_plan : Time → Counts → Counts
+at_plan time counts = record counts { plan = 0; time = time }
 
 -- what stays the same over a plan on a graph, with a guide to the goal of the search, by the search's workers
 abbrev pub inquiry : {Action : Type 0} → Network → (ℕ → ℕ) → Standing Action → Ask → Inquiry
@@ -71,15 +72,15 @@ pub record IsMoved {Action : Type 0} (from : ℕ) (old new : Standing Action) : 
 
 -- Memory ran out after a part of a plan, whose expansions are counted and none of which is beyond the budget; another plan may begin,
 -- where `Ready` says so.
-pub record IsCutPlan {Action : Type 0} (means : Meaning Action) (q : Inquiry) (Ready : Type 0) (Told : List (PassRecord Action) → Type 0) (old new : Standing Action) : Type 0 where
-  pub part : IsPartOfPlan means q q.ask.first old.search new.search (at_plan old.counts) new.counts Told
+pub record IsCutPlan {Action : Type 0} (means : Meaning Action) (q : Inquiry) (time : Time) (Ready : Type 0) (Told : List (PassRecord Action) → Type 0) (old new : Standing Action) : Type 0 where
+  pub part : IsPartOfPlan means q q.ask.first old.search new.search (at_plan time old.counts) new.counts Told
   pub within : expansions part.passes ≤ old.counts.per_plan
   pub ready : Ready
   pub same : StaysTheSame old new
 
 -- memory ran out after a part of a plan, or in the pass after it
-abbrev pub StandsOutOfMemory : {Action : Type 0} → Meaning Action → Inquiry → (Ready : Type 0) → (Told : List (PassRecord Action) → Type 0) → (old new : Standing Action) → Type 0
-StandsOutOfMemory means q Ready Told old new = IsCutPlan means q Ready Told old new ⊎ IsCutAfterPart means q q.ask.first old.search new.search (at_plan old.counts) new.counts Told
+abbrev pub StandsOutOfMemory : {Action : Type 0} → Meaning Action → Inquiry → Time → (Ready : Type 0) → (Told : List (PassRecord Action) → Type 0) → (old new : Standing Action) → Type 0
+StandsOutOfMemory means q time Ready Told old new = IsCutPlan means q time Ready Told old new ⊎ IsCutAfterPart means q q.ask.first old.search new.search (at_plan time old.counts) new.counts Told
 
 -- ---- a session
 

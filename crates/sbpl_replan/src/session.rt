@@ -3,7 +3,9 @@
 ghost use Rattle.std.specs.Prelude.{◌≡◌, false, ◌+◌, ◌^◌, ◌≤◌, ◌<◌, ◌⊎◌, IfOk, IsOk, OnErr, OnOk};
 ghost use Rattle.sbpl_heur.specs.sbpl_map.MapAfter.{AreWritten};
 ghost use Rattle.sbpl_heur.specs.sbpl_terrain.Noted.{AreOnMap};
+ghost use Rattle.sbpl_plan.specs.sbpl_labels.Counts.{time_of};
 ghost use Rattle.sbpl_plan.specs.sbpl_labels.Marks.{AreLabels};
+ghost use Rattle.sbpl_plan.specs.sbpl_labels.declared.time.Time.TheVariants.{Unlimited};
 ghost use Rattle.sbpl_plan.specs.sbpl_search.Ready.{IsStartFresh};
 ghost use Rattle.sbpl_plan.specs.Asked.{IsAsk, MOST_PASSES};
 ghost use Rattle.sbpl_plan.specs.Determined.{AreWithin};
@@ -14,9 +16,12 @@ ghost use Rattle.sbpl_replan.specs.Replanning.{IsMoved, inquiry, standing_of};
 
 use crate::change::change;
 use sbpl_heur::{Best, Heuristic, Lattice, Terrain, Write};
-use sbpl_plan::{Ask, Budget, Inquiry, Labels, Meter, NoMemory, Observer, Planned, Search, plan};
+use sbpl_plan::{
+    Ask, Budget, Inquiry, Labels, Meter, NoMemory, Observer, Planned, Search, Timer, plan,
+};
 use std::alloc::Global;
 use std::marker::Model;
+use std::time::Duration;
 
 /// A world, and plans on it by one search, one after another: batches of changes are written to its map, and the goal and the
 /// start may change. The world may be a graph the other way round: then the search's goal is where the robot is. The heuristic
@@ -63,7 +68,7 @@ impl<W: Terrain + Drop, H: Heuristic<W>, S: Search<W, H> + Drop> Session<W, H, S
         ensures ready { IfOk result (IsReady S.meaning W.network H.is_made_for) }
         ensures world { IfOk result (λ s. s.world ≡ world) }
         ensures search { IfOk result (λ s. s.search ≡ S.state search) }
-        ensures counts { IfOk result (λ s. s.counts ≡ record { per_plan = budget; plan = 0; run = 0 }) }
+        ensures counts { IfOk result (λ s. s.counts ≡ record { per_plan = budget; plan = 0; run = 0; time = Unlimited }) }
         ensures free { H.takes_memory ≡ false → IsOk result }
     {
         let guide = H::build(alloc, &world, search.goal())?;
@@ -76,11 +81,20 @@ impl<W: Terrain + Drop, H: Heuristic<W>, S: Search<W, H> + Drop> Session<W, H, S
         })
     }
 
-    /// Sets this meter from now on to how many states the plans have expanded so far, while a plan goes on too: at each 64th.
+    /// Sets this meter from now on to how many states the plans have expanded so far, while a plan goes on too: where a plan
+    /// begins, and at each 64th of its expansions.
     pub fn meter_by(&mut self, meter: &Meter)
         ensures same { self.new ≡ self.old }
     {
         self.budget.meter_by(meter);
+    }
+
+    /// The plans to come have their limits of time by this timer. Before the first call no time is told, so no limit comes to an
+    /// end.
+    pub fn time_by(&mut self, timer: Timer)
+        ensures same { self.new ≡ self.old }
+    {
+        self.budget.time_by(timer);
     }
 
     /// What is planned on, with its present map.
@@ -114,13 +128,15 @@ impl<W: Terrain + Drop, H: Heuristic<W>, S: Search<W, H> + Drop> Session<W, H, S
 
     /// Makes a plan on the present map: passes with the inflation `ask.first`, then `ask.step` less each time and never
     /// below 1.000, until one finds a path whose bound is at most `ask.bound`, shows that there is no path, is spent, or
-    /// has inflation 1.000. The observer is told of each path as soon as the walk of a pass has given it. After `NoMemory`
-    /// another plan may be made on the map, from the labels that the passes so far left, unless memory ran out within a
-    /// pass.
+    /// has inflation 1.000. With a limit of time, 0.001 s to 1,000,000 s from now on, the clock is asked at each 256th
+    /// expansion, and a plan that is late is spent; without one no clock is asked. The observer is told of each path as soon as
+    /// the walk of a pass has given it. After `NoMemory` another plan may be made on the map, from the labels that the passes so
+    /// far left, unless memory ran out within a pass.
     pub fn plan<O: Observer>(
         &mut self,
         alloc: Global,
         ask: &Ask,
+        limit: Option<Duration>,
         observer: &mut O,
     ) -> Result<Planned<S::Action>, NoMemory>
         requires ready { IsReady S.meaning W.network H.is_made_for self.old }
@@ -128,9 +144,12 @@ impl<W: Terrain + Drop, H: Heuristic<W>, S: Search<W, H> + Drop> Session<W, H, S
         requires observed { MOST_PASSES ≤ O.room observer.old }
         ensures planned { IfOk result (IsPlanned S.meaning
             (inquiry (W.network self.old.world) (H.distance self.old.guide) (standing_of self.old) ask.now)
-            self.old.search self.new.search (at_plan self.old.counts) self.new.counts) }
-        // No expansion is beyond the budget or the run's 2^30, and a plan is spent only where the one or the other is used up.
-        ensures within { IfOk result (λ r. AreWithin self.old.counts.per_plan self.old.counts.run r.passes r.spent) }
+            self.old.search self.new.search (at_plan (time_of limit) self.old.counts) self.new.counts) }
+        // No expansion is beyond the budget or the run's 2^30, and a plan is spent only where the one or the other is used up, or
+        // the plan is late.
+        ensures within { IfOk result (λ r. AreWithin self.old.counts.per_plan self.old.counts.run self.new.counts.time
+            r.passes r.spent) }
+        ensures unlimited { limit ≡ None → OnOk result (self.new.counts.time ≡ Unlimited) }
         ensures run { self.new.counts.run ≤ 2 ^ 30 }
         // Another plan may begin, and the map may change.
         ensures ready { IfOk result (λ _. IsReady S.meaning W.network H.is_made_for self.new) }
@@ -138,7 +157,7 @@ impl<W: Terrain + Drop, H: Heuristic<W>, S: Search<W, H> + Drop> Session<W, H, S
         ensures world { self.new.world ≡ self.old.world }
         ensures guide { self.new.guide ≡ self.old.guide }
         ensures memory { OnErr result (StandsOutOfMemory S.meaning
-            (inquiry (W.network self.old.world) (H.distance self.old.guide) (standing_of self.old) ask.now)
+            (inquiry (W.network self.old.world) (H.distance self.old.guide) (standing_of self.old) ask.now) (time_of limit)
             (IsReady S.meaning W.network H.is_made_for self.new)
             (λ ps. AreTold O.told 0 ps observer.old observer.new)
             (standing_of self.old) (standing_of self.new)) }
@@ -146,7 +165,7 @@ impl<W: Terrain + Drop, H: Heuristic<W>, S: Search<W, H> + Drop> Session<W, H, S
         ensures told { IfOk result (λ r. AreTold O.told 0 r.passes observer.old observer.new) }
         ensures observed { O.room observer.old ≤ O.room observer.new + MOST_PASSES }
     {
-        self.budget.next_plan();
+        self.budget.next_plan(limit);
         let inquiry = Inquiry {
             graph: &self.world,
             guide: &self.guide,

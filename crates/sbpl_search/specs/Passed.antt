@@ -1,9 +1,9 @@
 -- What a pass does to a search and to the counts of expansions.
-use Rattle.std.specs.Prelude.{◌≡◌, ℕ, ◌+◌, ◌*◌, ◌<◌, ◌≤◌, Some}
+use Rattle.std.specs.Prelude.{◌≡◌, ℕ, ◌*◌, ◌<◌, ◌≤◌, Some}
 use Rattle.sbpl_labels.specs.sbpl_graph.declared.TheConstants.{FAR}
 use Rattle.sbpl_labels.specs.sbpl_graph.Certificate.{AreSupported, ShowBound, ShowNone}
 use Rattle.sbpl_labels.specs.Chain.{chain_at}
-use Rattle.sbpl_labels.specs.Counts.{Counts, IsSpent}
+use Rattle.sbpl_labels.specs.Counts.{Counts, GrowBy, IsSpent}
 use Rattle.sbpl_labels.specs.Marks.{states_of, g_of, v_of, back_of}
 use Rattle.sbpl_labels.specs.declared.pass_end.PassEnd.{PassEnd}
 use Rattle.sbpl_labels.specs.declared.pass_end.PassEnd.TheVariants.{Rest, Spent}
@@ -24,7 +24,7 @@ pub record IsPassed {Action : Type 0} (means : Meaning Action) (q : Query) (old 
   pub goes_on : end ≡ Spent → means.goes_on q new.actions new.labels
   pub seated : means.seated old.workers new.actions
   pub is_spent : end ≡ Spent → IsSpent after
-  pub counted : after ≡ record before { plan = before.plan + means.expansions new.actions; run = before.run + means.expansions new.actions }
+  pub counted : GrowBy (means.expansions new.actions) before after
   pub each : (s : ℕ) → means.times s new.actions ≤ means.most
   pub few : means.expansions new.actions ≤ means.most * states_of old.labels
   pub unfinished : end ≡ Spent → means.expansions new.actions < means.most * states_of old.labels

@@ -6,7 +6,7 @@ mod search;
 
 pub use determined::Determined;
 pub use sbpl_labels::{
-    Budget, FAR, Graph, Guide, Labels, Meter, NoMemory, PassEnd, Walk, Zero, bound_holds, bound_of,
-    ceil_root, none_holds,
+    Budget, FAR, Graph, Guide, Labels, Meter, NoMemory, PassEnd, Time, Timer, Walk, Zero,
+    bound_holds, bound_of, ceil_root, none_holds,
 };
 pub use search::Search;

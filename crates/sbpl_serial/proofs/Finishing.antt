@@ -1,10 +1,11 @@
 -- How a pass ends, and what its labels then show.
-use Rattle.std.proofs.Common.{◌≡◌, ℕ, ◌+◌, ◌*◌, ◌^◌, ◌<◌, ◌≤◌, Bool, true, false, arith, ⊎_elim, inl, ap, refl, sym}
+use Rattle.std.proofs.Common.{◌≡◌, ◌≢◌, ℕ, ◌+◌, ◌*◌, ◌^◌, ◌<◌, ◌≤◌, Bool, true, false, arith, ⊎_elim, inl, inr, refl}
+use Rattle.std.proofs.Common.{sym}
 use Rattle.std.proofs.lemmas.Bool.{cases_lt, cases_Bool}
 use Rattle.sbpl_search.specs.sbpl_graph.declared.TheConstants.{FAR}
 use Rattle.sbpl_search.specs.sbpl_graph.Laws.{IsConsistent}
 use Rattle.sbpl_search.specs.sbpl_graph.Certificate.{AreSupported, ShowBound, ShowNone}
-use Rattle.sbpl_search.specs.sbpl_labels.Counts.{Counts, IsSpent}
+use Rattle.sbpl_search.specs.sbpl_labels.Counts.{Counts, GrowBy, IsSpent}
 use Rattle.sbpl_search.specs.sbpl_labels.Marks.{Marks, AreLabels, states_of, g_of, v_of}
 use Rattle.sbpl_open.specs.KeyOrder.{IsBelow}
 use Rattle.sbpl_search.specs.Query.{Query}
@@ -17,6 +18,7 @@ use Rattle.sbpl_serial.proofs.Passing.{IsPassing, closed_by, passing_room}
 use Rattle.sbpl_search.specs.sbpl_graph.Laws.{IsSound}
 use Rattle.sbpl_search.specs.sbpl_graph.Network.{Network}
 use Rattle.sbpl_search.specs.sbpl_labels.declared.pass_end.PassEnd.TheVariants.{Rest, Spent}
+use Rattle.sbpl_search.specs.sbpl_labels.declared.time.Time.TheVariants.{Late}
 use Rattle.sbpl_search.specs.Query.{query}
 use Rattle.sbpl_serial.specs.Passed.{IsSerialPass}
 use Rattle.sbpl_serial.proofs.Ending.{rest_not_spent, rest_at_rest, rest_at_next, spent_at_rest, spent_at_next}
@@ -81,18 +83,15 @@ module _ {q : Query} {closed : ℕ → Bool} {m : Marks} (rest : IsAtRest q clos
         (cases_lt (v_of m s) FAR);
   }
 
--- a budget that has more than the steps made is not spent
+-- a budget that has more than the steps made is not spent, unless the plan is late
 pub not_spent : (before counts : Counts) {steps most : ℕ}
-    → counts ≡ record before { plan = before.plan + steps; run = before.run + steps }
-    → IsSpent counts → steps < most → before.plan + most ≤ before.per_plan → before.run + most ≤ 2 ^ 30 → ⊥
-not_spent before counts {steps} {most} counted spent fewer plan run =
-    let used : counts.plan ≡ before.plan + steps = ap (λ (x : Counts). x.plan) counted in
-    let all : counts.run ≡ before.run + steps = ap (λ (x : Counts). x.run) counted in
-    let per : counts.per_plan ≡ before.per_plan = ap (λ (x : Counts). x.per_plan) counted in
-    ⊎_elim
-    (λ (full : counts.plan ≡ counts.per_plan). omega arith)
-    (λ (full : counts.run ≡ 2 ^ 30). omega arith)
-    spent
+    → GrowBy steps before counts → IsSpent counts → steps < most → before.plan + most ≤ before.per_plan
+    → before.run + most ≤ 2 ^ 30 → counts.time ≢ Late → ⊥
+not_spent before counts counted (inl full) fewer plan run in_time =
+    omega (arith, counted.plan, counted.budget, full, fewer, plan)
+not_spent before counts counted (inr (inl full)) fewer plan run in_time =
+    omega (arith, counted.run, full, fewer, run)
+not_spent before counts counted (inr (inr late)) fewer plan run in_time = in_time late
 
 -- What the labels of a pass show.
 module _ {n : Network} {h : ℕ → ℕ} {eps : ℕ} {old now : SerialState} {before counts : Counts}
@@ -127,7 +126,7 @@ module _ {n : Network} {h : ℕ → ℕ} {eps : ℕ} {old now : SerialState} {be
     rest = rest_at_rest rest;
     spent = spent_at_rest rest;
     unfinished = λ e. absurd (rest_not_spent e);
-    enough = λ _ _. refl;
+    enough = λ _ _ _. refl;
     unbroken = λ _ i u at. chain_unbroken {q = query n h eps old.goal} sound consistent here.usable.exact
         here.usable.states inside rest i u at;
     settled = λ one s closed. (here.ordered one).settled s closed;
@@ -156,7 +155,7 @@ module _ {n : Network} {h : ℕ → ℕ} {eps : ℕ} {old now : SerialState} {be
         rest = rest_at_next next;
         spent = spent_at_next spent next;
         unfinished = λ _. room;
-        enough = λ plan run. absurd (not_spent before counts here.counted spent room plan run);
+        enough = λ plan run in_time. absurd (not_spent before counts here.counted spent room plan run in_time);
         unbroken = λ e. absurd (rest_not_spent (sym e));
         settled = λ one u closed. (here.ordered one).settled u closed;
         none = λ e. absurd (rest_not_spent (sym e));

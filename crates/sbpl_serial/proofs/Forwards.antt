@@ -19,6 +19,7 @@ use Rattle.sbpl_search.specs.sbpl_labels.declared.row.Row.{Row}
 use Rattle.sbpl_search.specs.sbpl_labels.Marks.{Marks, AreLabels, no_row, states_of, g_of, v_of}
 use Rattle.sbpl_search.specs.sbpl_labels.declared.pass_end.PassEnd.{PassEnd}
 use Rattle.sbpl_search.specs.sbpl_labels.declared.pass_end.PassEnd.TheVariants.{Rest, Spent}
+use Rattle.sbpl_search.specs.sbpl_labels.declared.time.Time.TheVariants.{Late}
 use Rattle.sbpl_search.specs.Query.{Query}
 use Rattle.sbpl_serial.specs.declared.step.Step.{Step}
 use Rattle.sbpl_serial.specs.Passed.{IsSerialPass, IsForwardPass}
@@ -232,14 +233,14 @@ one_left {closed = closed} {m = m} {s = s} forward next =
     (λ (over : IsOver m s × (closed s ≡ false)). over.1) next.is_open.inconsistent in
     rw is refl
 
--- with a budget for each state a pass rests
+-- with a budget for each state a pass that is not late rests
 rests_where_ample : {q : Query} {old now : SerialState} {before counts : Counts} (end : PassEnd)
     → IsSerialPass q old now before counts end
     → (end ≡ Spent → length now.trace < states_of old.labels) → before.plan + states_of old.labels ≤ before.per_plan
-    → before.run + states_of old.labels ≤ 2 ^ 30 → end ≡ Rest
-rests_where_ample Rest passed unfinished plan run = refl
-rests_where_ample {before = before} {counts = counts} Spent passed unfinished plan run =
-    absurd (not_spent before counts passed.counted (passed.spent.0 refl).0 (unfinished refl) plan run)
+    → before.run + states_of old.labels ≤ 2 ^ 30 → counts.time ≢ Late → end ≡ Rest
+rests_where_ample Rest passed unfinished plan run in_time = refl
+rests_where_ample {before = before} {counts = counts} Spent passed unfinished plan run in_time =
+    absurd (not_spent before counts passed.counted (passed.spent.0 refl).0 (unfinished refl) plan run in_time)
 
 module _ {n : Network} {h : ℕ → ℕ} {eps : ℕ} {old now : SerialState} {before counts : Counts}
     (none : NoneUnder (states_of old.labels) (g_of old.labels) (v_of old.labels))
@@ -269,7 +270,7 @@ module _ {n : Network} {h : ℕ → ℕ} {eps : ℕ} {old now : SerialState} {be
         each = λ s. omega (arith, forward.each s);
         few = omega (arith, forward.total, ones);
         unfinished = unfinished;
-        enough = λ plan run. rests_where_ample end passed unfinished plan run;
+        enough = λ plan run in_time. rests_where_ample end passed unfinished plan run in_time;
         none = λ rest far.
             rest_shows_none (passed.rest.0 rest) labels eps_high passed.usable.states
             (λ s inside. bounded s (omega (arith, passed.usable.states))) forward.now.near passed.supported far;

@@ -32,3 +32,4 @@ pub use Rattle.sbpl_search.proofs.Fitting
 pub use Rattle.sbpl_search.proofs.Keeping
 pub use Rattle.sbpl_search.proofs.Paths
 pub use Rattle.sbpl_search.proofs.Changes
+pub use Rattle.sbpl_search.proofs.Growing

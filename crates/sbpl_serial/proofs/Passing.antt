@@ -1,12 +1,13 @@
 -- A pass from its beginning on.
 use Rattle.std.proofs.Common.{◌≡◌, ◌≢◌, ℕ, ◌+◌, ◌*◌, ◌<◌, ◌≤◌, Bool, true, false, List, [], ◌∷◌, ◌++◌, length, arith}
-use Rattle.std.proofs.Common.{Some, ⊎_elim, refl, sym, ◌∙◌, ap, subst, add-zero, length-append}
+use Rattle.std.proofs.Common.{Some, ⊎_elim, refl, sym, ◌∙◌, ap, subst, length-append}
 use Rattle.std.proofs.lemmas.Bool.{eq-eqb, ne_eqb, or_left}
 use Rattle.sbpl_search.specs.sbpl_graph.Laws.{IsSound, IsConsistent}
 use Rattle.sbpl_search.specs.sbpl_graph.Network.{Network}
 use Rattle.sbpl_search.specs.sbpl_graph.Exact.{AreExact}
+use Rattle.sbpl_search.proofs.Growing.{grow_none, grow_twice}
 use Rattle.sbpl_search.proofs.Paths.{label_at_most}
-use Rattle.sbpl_search.specs.sbpl_labels.Counts.{Counts}
+use Rattle.sbpl_search.specs.sbpl_labels.Counts.{Counts, GrowBy}
 use Rattle.sbpl_search.specs.sbpl_labels.Marks.{Marks, AreLabels, states_of, g_of, v_of, back_of}
 use Rattle.sbpl_serial.specs.declared.step.Step.{Step}
 use Rattle.sbpl_serial.specs.Keys.{goal_key}
@@ -34,21 +35,11 @@ pub record IsPassing (q : Query) (old now : SerialState) (before counts : Counts
   pub same_start : now.labels.start ≡ old.labels.start
   pub same_states : states_of now.labels ≡ states_of old.labels
   pub usable : AreUsable q.network now.labels counts.run
-  pub counted : counts ≡ record before { plan = before.plan + length now.trace; run = before.run + length now.trace }
+  pub counted : GrowBy (length now.trace) before counts
   pub run : IsSerialRun q none_closed now.trace old.labels now.labels
   pub taken : AreCounted (states_of old.labels) now.trace (closed_by now) (v_of now.labels)
   pub ordered : q.eps ≡ 1000 → AreOrdered q.guide (closed_by now) now.labels
   pub queued : AreQueued q.eps q.guide (closed_by now) now.labels now.queue
-
--- the counts rise by one with each step
-pub counts_more : (before counts counts' : Counts) (steps steps' : ℕ)
-    → counts ≡ record before { plan = before.plan + steps; run = before.run + steps }
-    → counts' ≡ record counts { plan = counts.plan + 1; run = counts.run + 1 } → steps' ≡ steps + 1
-    → counts' ≡ record before { plan = before.plan + steps'; run = before.run + steps' }
-counts_more before counts counts' steps steps' was spent more =
-    let plan : before.plan + steps' ≡ before.plan + steps + 1 = omega arith in
-    let run : before.run + steps' ≡ before.run + steps + 1 = omega arith in
-    rw (spent, was, plan, run) refl
 
 -- one more state is taken
 pub run_push : (q : Query) (closed : ℕ → Bool) (steps : List Step) (old m new : Marks) (step : Step)
@@ -80,7 +71,7 @@ passing_none {q} {old} {now} {counts} same goal empty usable queued =
       same_start = ap (λ (m : Marks). m.start) same;
       same_states = ap states_of same;
       usable = rw same usable;
-      counted = rw empty (simp add-zero);
+      counted = rw empty (grow_none counts);
       run = rw (empty, same) refl;
       taken = counted_none (closed_by now) (v_of now.labels) empty;
       ordered = λ one. ordered_none none;
@@ -169,7 +160,7 @@ pub passing_more : {q : Query} {old now now' : SerialState} {before counts count
     → IsConsistent q.network q.goal q.guide → AreLabels now.labels → IsPassing q old now before counts
     → IsNext q (closed_by now) now.labels s → (raised : Bool) × IsTaken q.network now now' s raised
     → ((count : ℕ) → AreUsable q.network now.labels count → AreUsable q.network now'.labels (count + 1))
-    → now'.goal ≡ now.goal → counts' ≡ record counts { plan = counts.plan + 1; run = counts.run + 1 }
+    → now'.goal ≡ now.goal → GrowBy 1 counts counts'
     → AreQueued q.eps q.guide (closed_by now') now'.labels now'.queue → IsPassing q old now' before counts'
 passing_more {q} {old} {now} {now'} {before} {counts} {counts'} s sound consistent labels here next (raised, by)
     usable goal spent queued =
@@ -184,8 +175,8 @@ passing_more {q} {old} {now} {now'} {before} {counts} {counts'} s sound consiste
       same_goal = goal ∙ here.same_goal;
       same_start = kept.0 ∙ here.same_start;
       same_states = kept.1 ∙ here.same_states;
-      usable = rw spent (usable counts.run here.usable);
-      counted = counts_more before counts counts' (length now.trace) (length now'.trace) here.counted spent longer;
+      usable = rw spent.run (usable counts.run here.usable);
+      counted = grow_twice (length now'.trace) longer here.counted spent;
       run =
           rw by.traced (run_push q none_closed now.trace old.labels now.labels now'.labels step here.run next by.step);
       taken =

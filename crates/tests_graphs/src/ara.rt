@@ -77,7 +77,7 @@ fn are_as_wanted(alloc: Global, ara: &mut Ara) -> bool
     let mut budget = Budget::new(2);
     let cut = passes(alloc, tie, ara, 1000, &mut budget, CUT);
     let spent = passes(alloc, tie, ara, 1000, &mut budget, SPENT);
-    budget.next_plan();
+    budget.next_plan(None);
     let on = passes(alloc, tie, ara, 1000, &mut budget, ON);
     high && low && again && cut && spent && on
 }

@@ -74,7 +74,7 @@ fn is_counted() -> bool {
     let unspent = (budget.used(), budget.spent());
     budget.spend();
     let spent = (budget.used(), budget.spent());
-    budget.next_plan();
+    budget.next_plan(None);
     let counts = (unspent, spent, budget.used(), Zero.to_goal(8_388_607));
     counts == ((0, false), (1, true), 0, 0)
 }

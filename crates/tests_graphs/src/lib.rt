@@ -18,6 +18,8 @@ mod grids;
 #[cfg(test)]
 mod labels;
 #[cfg(test)]
+mod late;
+#[cfg(test)]
 mod open;
 #[cfg(test)]
 mod pages;

@@ -90,7 +90,7 @@ fn are_planned(alloc: Global, search: &mut AdStar) -> bool
     {
         return false;
     }
-    budget.next_plan();
+    budget.next_plan(None);
     replans(alloc, &row(0, 1), search, &mut budget, NO_PLAN)
 }
 

@@ -8,6 +8,7 @@ use Rattle.sbpl_checks.specs.sbpl_promises.Asked.{planner_for}
 use Rattle.sbpl_checks.specs.sbpl_promises.LatticeSite.{lattice_site}
 use Rattle.sbpl_checks.specs.sbpl_promises.Blocked.{blocked_line}
 use Rattle.sbpl_checks.specs.sbpl_promises.Causes.{ArePlanned, EarlyStopsFor, ReadsUpdates, ReadsWorld, lattice_files, plan_files, scope_of}
+use Rattle.sbpl_checks.specs.sbpl_promises.Headline.{NoPlan}
 use Rattle.sbpl_checks.specs.sbpl_promises.Intents.{Planned, section_writes}
 use Rattle.sbpl_checks.specs.sbpl_promises.Promises.{EndsPlans}
 use Rattle.sbpl_checks.specs.sbpl_promises.Published.{Entry}
@@ -27,7 +28,7 @@ use Rattle.sbpl_jobs.proofs.plan_job.run_plan.Goals as goal
 planned_so : (s t u : DeskState) (j : PlanJob) (log shown : List Entry) (w : World) (updates : Updates)
     (start goal : ℕ) (ending : Ending)
     → EndsPlans (planner_for lattice_site j.search.planner) (section_writes j.outputs) (blocked_line j.sources.env) w updates.batches
-    j.search j.outputs (start_after lattice_site.reporting w start updates.moves) goal 0 log shown [] ending.why None t u
+    j.search j.outputs (start_after lattice_site.reporting w start updates.moves) goal 0 log shown [] ending.why NoPlan t u
     (number_of ending.status)
     → lattice_site.reporting.starts w start → lattice_site.reporting.ends w goal
     → ReadsWorld s.held j.sources w → ReadsUpdates s.held j.changes (scope_of j.sources.states (may_move j.search.planner) w) updates

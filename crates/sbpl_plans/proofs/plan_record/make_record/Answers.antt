@@ -8,7 +8,8 @@ use Rattle.sbpl_worlds.specs.sbpl_cert.declared.section.Section.{Section}
 use Rattle.sbpl_worlds.specs.sbpl_fixed.declared.no_memory.NoMemory.{NoMemory}
 use Rattle.sbpl_worlds.specs.sbpl_job.declared.job.Outputs.{Outputs}
 use Rattle.sbpl_worlds.specs.sbpl_job.declared.job.SearchJob.{SearchJob}
-use Rattle.sbpl_worlds.specs.sbpl_labels.Counts.{Counts}
+use Rattle.sbpl_worlds.specs.sbpl_labels.declared.time.Time.{Time}
+use Rattle.sbpl_worlds.specs.sbpl_labels.declared.time.Time.TheVariants.{Late, Unlimited}
 use Rattle.sbpl_worlds.specs.sbpl_labels.Marks.{Marks}
 use Rattle.sbpl_worlds.specs.sbpl_plan.declared.ask.Ask.{Ask}
 use Rattle.sbpl_worlds.specs.sbpl_plan.declared.result.Planned.{Planned}
@@ -30,7 +31,7 @@ use Rattle.sbpl_worlds.specs.sbpl_report.declared.record.PlanRecord.{PlanRecord}
 use Rattle.sbpl_worlds.specs.sbpl_promises.Asked.{PlannerOn, ask_of, from_by, planner_on, to_by, workers_of}
 use Rattle.sbpl_worlds.specs.sbpl_promises.Sites.{Leads, Site, from_of, to_of}
 use Rattle.sbpl_worlds.specs.sbpl_promises.Blocked.{IsBlockageOf}
-use Rattle.sbpl_worlds.specs.sbpl_promises.Headline.{Begins, Carried, IsKnownWithin, IsMarked, IsNoneThere, IsSearched, IsToldOf}
+use Rattle.sbpl_worlds.specs.sbpl_promises.Headline.{Before, Begins, IsKnownWithin, IsMarked, IsNoneThere, IsSearched, IsToldOf}
 use Rattle.sbpl_worlds.specs.sbpl_promises.Headline.{IsWithinBound, Joins, KeepsPromises, expanded_before}
 use Rattle.sbpl_worlds.specs.sbpl_report.Shown.{IsShown, IsThere}
 use Rattle.sbpl_worlds.proofs.OnMaps.{to_inside}
@@ -59,9 +60,18 @@ in_run : {per_plan used run : ℕ} (before : ℕ) → run ≡ before + used → 
 in_run before rises (inl all) = inl all
 in_run before rises (inr all) = inr (rises ∙ all)
 
+-- a plan without a limit of time is not late
+not_late : {A : Type 0} {time : Time} → time ≡ Unlimited → A ⊎ (time ≡ Late) → A
+not_late unlimited (inl a) = a
+not_late unlimited (inr late) = absurd (let same : ◌≡◌ {A = Time} Unlimited Late = sym unlimited ∙ late in cc)
+
+in_time : {A B : Type 0} {time : Time} → time ≡ Unlimited → A ⊎ (B ⊎ (time ≡ Late)) → A ⊎ B
+in_time unlimited (inl a) = inl a
+in_time unlimited (inr rest) = inr (not_late unlimited rest)
+
 -- what is known of a plan, and of its record, is that it was searched
 module _ {W : Type 0} (by : PlannerOn W) (w : W) (guide : ℕ → ℕ) (start goal : ℕ) (how : SearchJob) (outputs : Outputs)
-    (before : Option Carried) (begun final : Marks) (raised : List ℕ) (per_plan run used : ℕ)
+    (before : Before) (begun final : Marks) (raised : List ℕ) (per_plan run used : ℕ)
     (planned : Planned by.Action) (section : Option Section) where
   searched_by : (asked : Ask) (wanted : Bool) (plan : ℕ) (r : Result PlanRecord NoMemory)
       → by.on.says w (to_by by start goal) guide
@@ -201,16 +211,17 @@ returns-clause-searched g c = λ before goes.
     let planned = c.in_ok-planned.planned in
     let made = c.in_ok-planned.ensures.planned in
     let within = c.in_ok-planned.ensures.within in
+    let unlimited : c.plan.new.self.counts.time ≡ Unlimited = c.in_ok-planned.ensures.unlimited refl in
     let old = standing_of c.args.session.now in
     let new = standing_of c.plan.new.self in
     let guide = g.W.Best.Guide.distance c.args.session.now.guide in
     let from = from_of back c.args.at.start task.goal in
     let to = to_of back c.args.at.start task.goal in
     let rises : new.counts.run ≡ old.counts.run + expansions planned.passes =
-    ap (λ (k : Counts). k.run) made.leaves.counted in
+    made.leaves.counted.run in
     let run : new.counts.run ≡ expanded_before before + expansions planned.passes =
     rises ∙ ap (λ (n : ℕ). n + expansions planned.passes) {y = expanded_before before} (sym goes.counted) in
-    let of_plan : new.counts.plan ≡ 0 + expansions planned.passes = ap (λ (k : Counts). k.plan) made.leaves.counted in
+    let of_plan : new.counts.plan ≡ 0 + expansions planned.passes = made.leaves.counted.plan in
     let used : c.expanded-expanded.result ≡ expansions planned.passes =
     omega (arith, c.expanded-expanded.ensures.value, of_plan) in
     searched_by by w guide c.args.at.start task.goal task.how.now task.outputs.now before old.search.labels
@@ -225,9 +236,9 @@ returns-clause-searched g c = λ before goes.
     (subst (λ (t : ℕ). ArePasses means (inquiry_of n guide t old.search.workers c.ask_of-ask.result)
     c.ask_of-ask.result.first old.search.labels planned.passes new.search.labels planned.spent) set.between.to_is made.passes))
     (subst (λ (t : ℕ). IsResultOf n guide t new.search.labels planned.outcome) set.between.to_is made.outcome)
-    set.budget_is run used (λ is. in_run old.counts.run rises (within.used_up is)) within.of_plan
+    set.budget_is run used (λ is. in_run old.counts.run rises (in_time unlimited (within.used_up is))) within.of_plan
     c.in_ok-planned.ensures.run made.few
-    (λ is ample. made.enough is (omega (arith, ample, set.budget_is)))
+    (λ is ample. not_late unlimited (made.enough is (omega (arith, ample, set.budget_is))))
     refl
     (subst (λ (h : ℕ → ℕ). IsThere (is_some task.outputs.now.labels) (IsShown task.outputs.now.form n h from to
     c.args.at.plan new.search.labels planned.outcome) c.in_ok-labels.labels)

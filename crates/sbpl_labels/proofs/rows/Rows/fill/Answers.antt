@@ -1,4 +1,4 @@
-use Rattle.std.proofs.Common.{rules, ◌≡◌, length, replicate}
+use Rattle.std.proofs.Common.{◌≡◌, length, replicate}
 use Rattle.std.proofs.lemmas.List.{length-replicate, get_or-replicate}
 use Rattle.sbpl_labels.specs.Marks.{no_row}
 use Rattle.sbpl_labels.proofs.Columns.{rows_size, same_rows}

@@ -1,4 +1,4 @@
-use Rattle.std.proofs.Common.{rules, ◌≡◌, replicate}
+use Rattle.std.proofs.Common.{◌≡◌, replicate}
 use Rattle.std.proofs.lemmas.List.{length-replicate, get_or-replicate}
 use Rattle.sbpl_labels.specs.Marks.{no_row}
 use Rattle.sbpl_labels.proofs.Columns.{same_rows}

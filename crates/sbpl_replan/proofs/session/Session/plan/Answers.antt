@@ -1,7 +1,7 @@
 use Rattle.std.proofs.Common.{List, subst}
 use Rattle.std.specs.Prelude.{IfOk, OnErr}
 use Rattle.sbpl_plan.specs.Planned.{IsPlanned}
-use Rattle.sbpl_plan.specs.sbpl_labels.Counts.{Counts}
+use Rattle.sbpl_plan.specs.sbpl_labels.Counts.{Counts, time_of}
 use Rattle.sbpl_plan.specs.declared.passes.PassRecord.{PassRecord}
 use Rattle.sbpl_plan.specs.Observed.{AreTold}
 use Rattle.sbpl_plan.specs.OutOfMemory.{RunsOutOfMemory}
@@ -25,7 +25,7 @@ returns-clause-planned g c =
       counts = c.self.inside.budget;
     } in
     subst (λ (s : SessionState g.row.S-Action.Denot g.row.H.Denot g.row.W.Denot). IfOk result (IsPlanned means
-    (inquiry (n s.world) (distance s.guide) (standing_of s) ask) s.search new (at_plan s.counts) counts)) c.self.view_is
+    (inquiry (n s.world) (distance s.guide) (standing_of s) ask) s.search new (at_plan (time_of c.args.limit) s.counts) counts)) c.self.view_is
     (subst (λ (before : Counts). IfOk result (IsPlanned means
     (inquiry (n old.world) (distance old.guide) (standing_of old) ask) old.search new before counts))
     c.next_plan.ensures.begun c.plan-planned.ensures.planned)
@@ -51,10 +51,10 @@ returns-clause-memory g c =
     let Told : List (PassRecord g.row.S-Action.Denot) → Type 0 =
     (λ ps. AreTold g.O.Observer.told 0 ps c.args.observer.now c.plan-planned.new.observer) in
     subst (λ (s : SessionState g.row.S-Action.Denot g.row.H.Denot g.row.W.Denot). IsReady means n made s
-    → OnErr result (StandsOutOfMemory means (inquiry (n s.world) (distance s.guide) (standing_of s) ask)
+    → OnErr result (StandsOutOfMemory means (inquiry (n s.world) (distance s.guide) (standing_of s) ask) (time_of c.args.limit)
     (IsReady means n made new) Told (standing_of s) (standing_of new))) c.self.view_is
     (λ ready. on_err_so result _ _
-    (λ runs. stands means (inquiry (n old.world) (distance old.guide) (standing_of old) ask)
+    (λ runs. stands means (inquiry (n old.world) (distance old.guide) (standing_of old) ask) (time_of c.args.limit)
     (IsReady means n made new) Told (standing_of old) (standing_of new) c.used-counts.ensures.counts
     (λ labels same fresh. ready_again means n made old new.search new.counts ready labels same fresh)
     (subst (λ (before : Counts). RunsOutOfMemory means

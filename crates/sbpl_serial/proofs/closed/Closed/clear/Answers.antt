@@ -1,4 +1,4 @@
-use Rattle.std.proofs.Common.{◌≡◌, ◌∙◌, nat_eq, length, arith, ap, sym}
+use Rattle.std.proofs.Common.{◌∙◌, length, ap, sym}
 use Rattle.std.proofs.lemmas.List.{length-map}
 use Rattle.sbpl_serial.proofs.Marking.{none_marked}
 use Rattle.sbpl_serial.proofs.closed.Closed.clear.Goals as goal

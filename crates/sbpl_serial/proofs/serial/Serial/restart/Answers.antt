@@ -1,5 +1,4 @@
-use Rattle.std.proofs.Common.{ℕ, ap, arith, inl, refl, ◌∙◌}
-use Rattle.sbpl_search.specs.sbpl_labels.Marks.{v_of}
+use Rattle.std.proofs.Common.{arith, refl}
 use Rattle.sbpl_serial.specs.Run.{none_closed}
 use Rattle.sbpl_serial.proofs.Gathering.{opened_waiting}
 use Rattle.sbpl_serial.proofs.Together.{together_none}
